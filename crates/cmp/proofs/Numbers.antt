@@ -1,0 +1,59 @@
+-- Two values of one kind by the numbers that they stand for: the common unit changes no order.
+use mathlib.Core.Path.{_≡_, refl, sym, _∙_, ap}
+use Prim.Native.Nat.{ℕ, _<_}
+use lib.Dec.{T, ltb, lit<}
+use lib.Pow.{pow-pos}
+use lib.IntN.{ℤ, pos, negsuc}
+use lib.Ieee.{Format, binary32, binary64}
+use Rattle.float.specs.Format.{fractionOf, exponentOf}
+use Rattle.float.specs.Number.{times}
+use Rattle.float.specs.Number as float-number
+use Rattle.float.specs.Order.{orderZ, orderOf, patternOf}
+use Rattle.float.specs.Order as float
+use Rattle.value.specs.declared.Value.{Value}
+use Rattle.value.specs.declared.Value.the-variants.{U8, U16, U32, U64, I8, I16, I32, I64, F32, F64}
+use Rattle.value.specs.Kinds.{kindOf, kindNumber}
+use Rattle.float.proofs.Comparing.{times-order}
+use Rattle.value.specs.Meaning.{wholeOf, unit, stepOf, exactOf, numberOf, positionOf}
+
+unit-pos : 0 < unit
+unfolding unit
+unit-pos = pow-pos 1074
+
+step-pos : (f : Format) → 0 < stepOf f
+unfolding stepOf
+step-pos binary32 = pow-pos 925
+step-pos binary64 = lit< tt
+
+whole-order : (y z : ℤ) → orderOf (float-number.numberOf (wholeOf y)) (float-number.numberOf (wholeOf z)) ≡ orderZ y z
+whole-order (pos m) (pos n) = refl
+whole-order (pos m) (negsuc n) = refl
+whole-order (negsuc m) (pos n) = refl
+whole-order (negsuc m) (negsuc n) = refl
+
+-- two integers
+pub integers-order : (y z : ℤ) → orderZ y z ≡ orderOf (float-number.numberOf (times unit (wholeOf y))) (float-number.numberOf (times unit (wholeOf z)))
+integers-order y z = sym (times-order unit unit-pos (wholeOf y) (wholeOf z) ∙ whole-order y z)
+
+-- two patterns of one format
+pub patterns-order : (f : Format) (a b : ℕ)
+    → float.compareOf (fractionOf f) (exponentOf f) a b
+    ≡ orderOf (float-number.numberOf (times (stepOf f) (patternOf (fractionOf f) (exponentOf f) a))) (float-number.numberOf (times (stepOf f) (patternOf (fractionOf f) (exponentOf f) b)))
+unfolding float.compareOf
+patterns-order f a b = sym (times-order (stepOf f) (step-pos f) (patternOf (fractionOf f) (exponentOf f) a) (patternOf (fractionOf f) (exponentOf f) b))
+
+-- an integer kind's position is its number
+whole-position : (v : Value) → T (ltb (kindNumber (kindOf v)) 8) → exactOf v ≡ times unit (wholeOf (positionOf v))
+whole-position (U8 n) t = refl
+whole-position (U16 n) t = refl
+whole-position (U32 n) t = refl
+whole-position (U64 n) t = refl
+whole-position (I8 z) t = refl
+whole-position (I16 z) t = refl
+whole-position (I32 z) t = refl
+whole-position (I64 z) t = refl
+whole-position (F32 x w) t = absurd t
+whole-position (F64 x w) t = absurd t
+
+pub positions-order : (a b : Value) → T (ltb (kindNumber (kindOf a)) 8) → T (ltb (kindNumber (kindOf b)) 8) → orderOf (numberOf a) (numberOf b) ≡ orderZ (positionOf a) (positionOf b)
+positions-order a b s t = cc (whole-position a s, whole-position b t) ∙ sym (integers-order (positionOf a) (positionOf b))

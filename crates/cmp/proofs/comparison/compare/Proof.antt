@@ -1,0 +1,197 @@
+-- Where both cases are known their kinds are one and the callee's order is that of the numbers; every `_` arm has other kinds than a's.
+use mathlib.Core.Path.{refl, _∙_}
+use mathlib.Core.List.{[], _∷_}
+use borrow.Author.Needs.{needs}
+use lib.Dec.{lit≤}
+use lib.IntN.{pos}
+use lib.Ieee.{binary32, binary64}
+use mir.Syntax.{w8, w16, w32, w64}
+use mir.Val.{SFits}
+use mir.ValLaws.{toZ-ofZ}
+use Rattle.value.proofs.TwosComplement.{wider, recast, recast-back}
+use Rattle.cmp.proofs.Answers.{compare-refused, compare-integers, compare-floats}
+use Rattle.cmp.proofs.comparison.compare.Statement.{statement}
+use Rattle.cmp.proofs.comparison.compare.Tie as tie
+
+cast-order-i64 : tie.Need-cast-order-i64
+cast-order-i64 c = let f : SFits w8 (c .before .before .before .before .a5 .given .0 .0) = search needs in recast w64 f (wider w64 (lit≤ tt) f)
+
+cast-order-i64-2 : tie.Need-cast-order-i64-2
+cast-order-i64-2 c = let f : SFits w8 (c .before .b5 .given .0 .0) = search needs in recast w64 f (wider w64 (lit≤ tt) f)
+
+cast-order-i64-3 : tie.Need-cast-order-i64-3
+cast-order-i64-3 c = let f : SFits w16 (c .before .before .before .before .a6 .given .0 .0) = search needs in recast w64 f (wider w64 (lit≤ tt) f)
+
+cast-order-i64-4 : tie.Need-cast-order-i64-4
+cast-order-i64-4 c = let f : SFits w16 (c .before .b6 .given .0 .0) = search needs in recast w64 f (wider w64 (lit≤ tt) f)
+
+cast-order-i64-5 : tie.Need-cast-order-i64-5
+cast-order-i64-5 c = let f : SFits w32 (c .before .before .before .before .a7 .given .0 .0) = search needs in recast w64 f (wider w64 (lit≤ tt) f)
+
+cast-order-i64-6 : tie.Need-cast-order-i64-6
+cast-order-i64-6 c = let f : SFits w32 (c .before .b7 .given .0 .0) = search needs in recast w64 f (wider w64 (lit≤ tt) f)
+
+returns : tie.Need-returns
+returns c = compare-integers (c .before .before .before .before .before .a .given .1) (c .before .before .b .given .1) refl (pos _) (pos _) refl refl (c .order-u64 .ensures)
+
+returns-2 : tie.Need-returns-2
+returns-2 c = c .kinds-differ .ensures ∙ compare-refused 1 (2 ∷ 3 ∷ 4 ∷ 5 ∷ 6 ∷ 7 ∷ 8 ∷ 9 ∷ []) _ (c .before .before .before .a .given .1) (c .before .match2 .keys2) tt
+
+returns-3 : tie.Need-returns-3
+returns-3 c = compare-integers (c .before .before .before .before .before .a2 .given .1) (c .before .before .b2 .given .1) refl (pos _) (pos _) refl refl (c .order-u642 .ensures)
+
+returns-4 : tie.Need-returns-4
+returns-4 c = c .kinds-differ2 .ensures ∙ compare-refused 0 (2 ∷ 3 ∷ 4 ∷ 5 ∷ 6 ∷ 7 ∷ 8 ∷ 9 ∷ []) _ (c .before .before .before .a2 .given .1) (c .before .match3 .keys2) tt
+
+returns-5 : tie.Need-returns-5
+returns-5 c = compare-integers (c .before .before .before .before .before .a3 .given .1) (c .before .before .b3 .given .1) refl (pos _) (pos _) refl refl (c .order-u643 .ensures)
+
+returns-6 : tie.Need-returns-6
+returns-6 c = c .kinds-differ3 .ensures ∙ compare-refused 0 (1 ∷ 3 ∷ 4 ∷ 5 ∷ 6 ∷ 7 ∷ 8 ∷ 9 ∷ []) _ (c .before .before .before .a3 .given .1) (c .before .match4 .keys2) tt
+
+returns-7 : tie.Need-returns-7
+returns-7 c = compare-integers (c .before .before .before .before .before .a4 .given .1) (c .before .before .b4 .given .1) refl (pos _) (pos _) refl refl (c .order-u644 .ensures)
+
+returns-8 : tie.Need-returns-8
+returns-8 c = c .kinds-differ4 .ensures ∙ compare-refused 0 (1 ∷ 2 ∷ 4 ∷ 5 ∷ 6 ∷ 7 ∷ 8 ∷ 9 ∷ []) _ (c .before .before .before .a4 .given .1) (c .before .match5 .keys2) tt
+
+returns-9 : tie.Need-returns-9
+returns-9 c =
+    let x = c .before .before .before .before .before .a5 .given in
+    let y = c .before .before .b5 .given in
+    let f : SFits w8 (x .0 .0) = search needs in
+    let g : SFits w8 (y .0 .0) = search needs in
+    compare-integers (x .1) (y .1) refl (x .0 .0) (y .0 .0) refl refl (simp (recast-back w64 f (wider w64 (lit≤ tt) f), recast-back w64 g (wider w64 (lit≤ tt) g)) at (c .order-i64 .ensures))
+
+returns-10 : tie.Need-returns-10
+returns-10 c = c .kinds-differ5 .ensures ∙ compare-refused 0 (1 ∷ 2 ∷ 3 ∷ 5 ∷ 6 ∷ 7 ∷ 8 ∷ 9 ∷ []) _ (c .before .before .before .a5 .given .1) (c .before .match6 .keys2) tt
+
+returns-11 : tie.Need-returns-11
+returns-11 c =
+    let x = c .before .before .before .before .before .a6 .given in
+    let y = c .before .before .b6 .given in
+    let f : SFits w16 (x .0 .0) = search needs in
+    let g : SFits w16 (y .0 .0) = search needs in
+    compare-integers (x .1) (y .1) refl (x .0 .0) (y .0 .0) refl refl (simp (recast-back w64 f (wider w64 (lit≤ tt) f), recast-back w64 g (wider w64 (lit≤ tt) g)) at (c .order-i642 .ensures))
+
+returns-12 : tie.Need-returns-12
+returns-12 c = c .kinds-differ6 .ensures ∙ compare-refused 0 (1 ∷ 2 ∷ 3 ∷ 4 ∷ 6 ∷ 7 ∷ 8 ∷ 9 ∷ []) _ (c .before .before .before .a6 .given .1) (c .before .match7 .keys2) tt
+
+returns-13 : tie.Need-returns-13
+returns-13 c =
+    let x = c .before .before .before .before .before .a7 .given in
+    let y = c .before .before .b7 .given in
+    let f : SFits w32 (x .0 .0) = search needs in
+    let g : SFits w32 (y .0 .0) = search needs in
+    compare-integers (x .1) (y .1) refl (x .0 .0) (y .0 .0) refl refl (simp (recast-back w64 f (wider w64 (lit≤ tt) f), recast-back w64 g (wider w64 (lit≤ tt) g)) at (c .order-i643 .ensures))
+
+returns-14 : tie.Need-returns-14
+returns-14 c = c .kinds-differ7 .ensures ∙ compare-refused 0 (1 ∷ 2 ∷ 3 ∷ 4 ∷ 5 ∷ 7 ∷ 8 ∷ 9 ∷ []) _ (c .before .before .before .a7 .given .1) (c .before .match8 .keys2) tt
+
+returns-15 : tie.Need-returns-15
+returns-15 c =
+    let x = c .before .before .before .before .before .a8 .given in
+    let y = c .before .before .b8 .given in
+    let f : SFits w64 (x .0 .0) = search needs in
+    let g : SFits w64 (y .0 .0) = search needs in
+    compare-integers (x .1) (y .1) refl (x .0 .0) (y .0 .0) refl refl (simp (toZ-ofZ w64 _ f, toZ-ofZ w64 _ g) at (c .order-i644 .ensures))
+
+returns-16 : tie.Need-returns-16
+returns-16 c = c .kinds-differ8 .ensures ∙ compare-refused 0 (1 ∷ 2 ∷ 3 ∷ 4 ∷ 5 ∷ 6 ∷ 8 ∷ 9 ∷ []) _ (c .before .before .before .a8 .given .1) (c .before .match9 .keys2) tt
+
+returns-17 : tie.Need-returns-17
+returns-17 c =
+    compare-floats (c .before .before .before .before .before .before .before .a9 .given .1) (c .before .before .before .before .b9 .given .1) refl binary32 _ _ refl refl
+    (c .compare-f32 .ensures ∙ cc (c .before .bits-f322 .ensures, c .before .before .bits-f32 .ensures))
+
+returns-18 : tie.Need-returns-18
+returns-18 c = c .kinds-differ9 .ensures ∙ compare-refused 0 (1 ∷ 2 ∷ 3 ∷ 4 ∷ 5 ∷ 6 ∷ 7 ∷ 9 ∷ []) _ (c .before .before .before .a9 .given .1) (c .before .match10 .keys2) tt
+
+returns-19 : tie.Need-returns-19
+returns-19 c =
+    compare-floats (c .before .before .before .before .before .before .before .a10 .given .1) (c .before .before .before .before .b10 .given .1) refl binary64 _ _ refl refl
+    (c .compare-f64 .ensures ∙ cc (c .before .bits-f642 .ensures, c .before .before .bits-f64 .ensures))
+
+returns-20 : tie.Need-returns-20
+returns-20 c = c .kinds-differ10 .ensures ∙ compare-refused 0 (1 ∷ 2 ∷ 3 ∷ 4 ∷ 5 ∷ 6 ∷ 7 ∷ 8 ∷ []) _ (c .before .before .before .a10 .given .1) (c .before .match11 .keys2) tt
+
+pub compare-spec : {M : Type 1} → statement M
+compare-spec =
+    tie.close
+    (tie.spec
+    (λ c. search needs)
+    (λ c. search needs)
+    (λ c. search needs)
+    (λ c. search needs)
+    (λ c κs. search needs)
+    (λ c κs. search needs)
+    (λ c. search needs)
+    (λ c. search needs)
+    (λ c. search needs)
+    (λ c. search needs)
+    (λ c κs. search needs)
+    (λ c κs. search needs)
+    (λ c. search needs)
+    (λ c. search needs)
+    (λ c. search needs)
+    (λ c. search needs)
+    (λ c κs. search needs)
+    (λ c κs. search needs)
+    (λ c. search needs)
+    (λ c. search needs)
+    (λ c κs. search needs)
+    (λ c κs. search needs)
+    (λ c. search needs)
+    (λ c. search needs)
+    cast-order-i64
+    cast-order-i64-2
+    (λ c κs. search needs)
+    (λ c κs. search needs)
+    (λ c. search needs)
+    (λ c. search needs)
+    cast-order-i64-3
+    cast-order-i64-4
+    (λ c κs. search needs)
+    (λ c κs. search needs)
+    (λ c. search needs)
+    (λ c. search needs)
+    cast-order-i64-5
+    cast-order-i64-6
+    (λ c κs. search needs)
+    (λ c κs. search needs)
+    (λ c. search needs)
+    (λ c. search needs)
+    (λ c κs. search needs)
+    (λ c κs. search needs)
+    (λ c. search needs)
+    (λ c. search needs)
+    (λ c κs. search needs)
+    (λ c κs. search needs)
+    (λ c κs. search needs)
+    (λ c κs. search needs)
+    (λ c. search needs)
+    (λ c. search needs)
+    (λ c κs. search needs)
+    (λ c κs. search needs)
+    (λ c κs. search needs)
+    (λ c κs. search needs)
+    returns
+    returns-2
+    returns-3
+    returns-4
+    returns-5
+    returns-6
+    returns-7
+    returns-8
+    returns-9
+    returns-10
+    returns-11
+    returns-12
+    returns-13
+    returns-14
+    returns-15
+    returns-16
+    returns-17
+    returns-18
+    returns-19
+    returns-20)

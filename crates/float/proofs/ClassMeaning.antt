@@ -1,0 +1,56 @@
+-- Class by class, what a pattern stands for; and that a finite pattern's number is its scaled number.
+use mathlib.Core.Path.{_≡_, refl, sym, _∙_, ap, subst}
+use mathlib.Core.Bool.{Bool, true, false, cond}
+use Prim.Native.Nat.{ℕ, zero, suc, _+_, _-_, _^_, _≤_, _<_}
+use native.Mathlib.Omega.{arith}
+use borrow.Author.Tests.{ltb-true, ltb-false, eqb-true, eqb-false}
+use lib.Dec.{ltb, eqb}
+use lib.IntN.{ℤ, pos}
+use Rattle.float.specs.declared.Class.{Class}
+use Rattle.float.specs.declared.Class.the-variants.{Zero, Subnormal, Normal, Infinite, Nan}
+use Rattle.float.specs.Format.{infOf, negativeOf, absOf, finiteOf, magOf, scaledOf, classAt, classOf}
+use Rattle.float.specs.Number.{signedOf, number, numberOf}
+use Rattle.float.specs.Order.{patternOf}
+use Rattle.float.specs.ClassMeaning.{largestOf, ClassMeans}
+use Rattle.float.proofs.Magnitude.{mag-grows, mag-small, mag-normal, mag-zero, mag-largest}
+use Rattle.float.proofs.Comparing.{pattern-nan, pattern-infinite, pattern-finite}
+
+signed-zero : (s : Bool) → signedOf s 0 ≡ pos 0
+signed-zero true = refl
+signed-zero false = refl
+
+scaled-zero : (p e b : ℕ) → absOf p e b ≡ 0 → scaledOf p e b ≡ pos 0
+unfolding scaledOf
+scaled-zero p e b q = ap (λ (x : ℕ). signedOf (negativeOf p e b) (magOf p x)) q ∙ ap (signedOf (negativeOf p e b)) (mag-zero p) ∙ signed-zero (negativeOf p e b)
+
+normal-range : (p e x : ℕ) → 2 ≤ e → x < infOf p e → 2 ^ p ≤ x → (2 ^ p ≤ magOf p x) × (magOf p x ≤ largestOf p e)
+normal-range p e x h l g =
+    let low = mag-grows p (2 ^ p) x g in
+    let high = mag-grows p x (infOf p e - 1) (omega arith) in
+    (subst (λ (n : ℕ). n ≤ magOf p x) (mag-normal p) low, subst (λ (n : ℕ). magOf p x ≤ n) (mag-largest p e h) high)
+
+pos-of-ne : {x : ℕ} → (x ≡ 0 → ⊥) → 0 < x
+pos-of-ne h = omega (arith, h)
+
+below-of-ne : {x y : ℕ} → x ≤ y → (x ≡ y → ⊥) → x < y
+below-of-ne l h = omega (arith, h)
+
+module _ (p e b : ℕ) (h : 2 ≤ e) where
+  by-tests : (n i z s : Bool) → ltb (infOf p e) (absOf p e b) ≡ n → eqb (absOf p e b) (infOf p e) ≡ i → eqb (absOf p e b) 0 ≡ z → ltb (absOf p e b) (2 ^ p) ≡ s
+      → ClassMeans p e b (cond n Nan (cond i Infinite (cond z Zero (cond s Subnormal Normal))))
+  by-tests true i z s a c d f = pattern-nan p e b (ltb-true _ _ a)
+  by-tests false true z s a c d f = pattern-infinite p e b (eqb-true _ _ c)
+  by-tests false false true s a c d f = scaled-zero p e b (eqb-true _ _ d)
+  by-tests false false false true a c d f =
+      let l : absOf p e b < 2 ^ p = ltb-true _ _ f in
+      (mag-small p _ l, pos-of-ne (eqb-false _ 0 d), l)
+  by-tests false false false false a c d f = normal-range p e _ h (below-of-ne (ltb-false _ _ a) (eqb-false _ (infOf p e) c)) (ltb-false _ _ f)
+
+  pub class-means : ClassMeans p e b (classOf p e b)
+  unfolding classOf
+  class-means = by-tests _ _ _ _ refl refl refl refl
+
+-- the comparison of two finite patterns is that of their scaled numbers
+pub number-scaled : (p e b : ℕ) → finiteOf p e b ≡ true → numberOf (patternOf p e b) ≡ number (scaledOf p e b)
+unfolding scaledOf
+number-scaled p e b h = ap numberOf (pattern-finite p e b (ltb-true _ _ h))

@@ -1,0 +1,10 @@
+pub mod Naturals
+pub mod Magnitude
+pub mod Machine
+pub mod Place
+pub mod Comparing
+pub mod SameNumber
+pub mod Language
+pub mod Operators
+pub mod ClassMeaning
+pub mod Cases

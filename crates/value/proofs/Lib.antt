@@ -1,0 +1,5 @@
+pub mod KindNumbers
+pub mod TwosComplement
+pub mod FloatBits
+pub mod MadeValues
+pub mod Outcomes

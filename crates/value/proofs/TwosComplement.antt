@@ -1,0 +1,100 @@
+-- Two's complement: what the machine's signed operations give, and that reading undoes writing.
+use mathlib.Core.Path.{_≡_, refl, sym, _∙_, ap, subst}
+use mathlib.Core.Logic.{_⊎_, inl, inr}
+use mathlib.Core.Bool.{Bool, true, false, cond, true≢false}
+use Prim.Native.Nat.{ℕ, zero, suc, _-_, _*_, _^_, _≤_, _<_}
+use native.Mathlib.Nat.{lt-of-lt-of-le, le-trans, le-of-lt}
+use native.Mathlib.Omega.{arith}
+use borrow.Author.Tests.{lt-ltb, le-ltb, le-leb}
+use lib.Dec.{T, lit≤}
+use lib.IntN.{ℤ, pos, negsuc, natAbs, _-ℤ_}
+use lib.Signed.{mag, leZ, nonNeg}
+use mir.Syntax.{Width, w64}
+use mir.Val.{Fits, SFits, hbits, toZ, ofZ}
+use mir.ValLaws.{toZ-ofZ, half-full}
+use Rattle.value.specs.Meaning.{twosOf, fromTwos}
+use Rattle.float.proofs.Naturals.{lt-or-ge}
+
+-- ---- the machine's reading of a signed number z, where it tests 0 <= z
+
+complement : (n : ℕ) → negsuc 0 -ℤ negsuc n ≡ pos n
+complement n = let q : suc n - 1 ≡ n = omega arith in simp (le-ltb (suc n) 1 (omega arith), q)
+
+natural : (z : ℤ) → SFits w64 z → leZ (pos 0) z ≡ true → T (nonNeg z) × Fits w64 (natAbs z)
+natural (pos n) f h = (tt, record { fits = half-full w64 (f .sfits) })
+natural (negsuc n) f h = absurd (true≢false (sym h))
+
+natural-twos : (ones : ℕ) (z : ℤ) → leZ (pos 0) z ≡ true → natAbs z ≡ twosOf ones z
+natural-twos ones (pos n) h = refl
+natural-twos ones (negsuc n) h = absurd (true≢false (sym h))
+
+negative : (z : ℤ) → leZ (pos 0) z ≡ false → negsuc 0 -ℤ z ≡ pos (mag z)
+negative (pos n) h = absurd (true≢false (sym (le-leb 0 n (omega arith)) ∙ h))
+negative (negsuc n) h = complement n
+
+negative-twos : (ones : ℕ) (z : ℤ) → leZ (pos 0) z ≡ false → ones - mag z ≡ twosOf ones z
+negative-twos ones (pos n) h = absurd (true≢false (sym (le-leb 0 n (omega arith)) ∙ h))
+negative-twos ones (negsuc n) h = refl
+
+module _ (z : ℤ) (f : SFits w64 z) where
+  read : toZ w64 (ofZ w64 z) ≡ z
+  read = toZ-ofZ w64 z f
+
+  module _ (h : leZ (pos 0) (toZ w64 (ofZ w64 z)) ≡ true) where
+    pub natural-cast : T (nonNeg (toZ w64 (ofZ w64 z))) × Fits w64 (natAbs (toZ w64 (ofZ w64 z)))
+    natural-cast = rw read (natural z f (rw read at h))
+
+    pub natural-is : (ones : ℕ) → natAbs (toZ w64 (ofZ w64 z)) ≡ twosOf ones z
+    natural-is ones = rw read (natural-twos ones z (rw read at h))
+
+  module _ (h : leZ (pos 0) (toZ w64 (ofZ w64 z)) ≡ false) where
+    turned : negsuc 0 -ℤ toZ w64 (ofZ w64 z) ≡ pos (mag z)
+    turned = rw read (negative z (rw read at h))
+
+    pub negative-fits : SFits w64 (negsuc 0 -ℤ toZ w64 (ofZ w64 z))
+    negative-fits = rw turned (record { sfits = f .sfits })
+
+    twice : toZ w64 (ofZ w64 (negsuc 0 -ℤ toZ w64 (ofZ w64 z))) ≡ pos (mag z)
+    twice = toZ-ofZ w64 _ negative-fits ∙ turned
+
+    pub negative-cast : T (nonNeg (toZ w64 (ofZ w64 (negsuc 0 -ℤ toZ w64 (ofZ w64 z))))) × Fits w64 (natAbs (toZ w64 (ofZ w64 (negsuc 0 -ℤ toZ w64 (ofZ w64 z)))))
+    negative-cast = rw twice (tt, record { fits = half-full w64 (f .sfits) })
+
+    pub negative-below : (ones : ℕ) → mag z ≤ ones → natAbs (toZ w64 (ofZ w64 (negsuc 0 -ℤ toZ w64 (ofZ w64 z)))) ≤ ones
+    negative-below ones l = rw twice l
+
+    pub negative-is : (ones : ℕ) → ones - natAbs (toZ w64 (ofZ w64 (negsuc 0 -ℤ toZ w64 (ofZ w64 z)))) ≡ twosOf ones z
+    negative-is ones = rw twice (negative-twos ones z (rw read at h))
+
+-- ---- a signed number that two widths hold, cast from one to the other
+
+pub wider : {v : Width} (w : Width) {z : ℤ} → 2 ^ hbits v ≤ 2 ^ hbits w → SFits v z → SFits w z
+wider w h f = record { sfits = lt-of-lt-of-le (f .sfits) h }
+
+module _ {v : Width} (w : Width) {z : ℤ} (f : SFits v z) (g : SFits w z) where
+  pub recast : SFits w (toZ v (ofZ v z))
+  recast = subst (λ (k : ℤ). SFits w k) (sym (toZ-ofZ v z f)) g
+
+  pub recast-back : toZ w (ofZ w (toZ v (ofZ v z))) ≡ z
+  recast-back = toZ-ofZ w _ recast ∙ toZ-ofZ v z f
+
+pub mag-below : {w : Width} {z : ℤ} (ones : ℕ) → SFits w z → 2 ^ hbits w ≤ ones → mag z ≤ ones
+mag-below ones f h = le-trans (le-of-lt (f .sfits)) h
+
+-- ---- reading undoes writing
+
+pub from-low : (half n : ℕ) → n < half → pos n ≡ fromTwos half n
+from-low half n h = simp (lt-ltb _ _ h)
+
+pub from-high : (half n : ℕ) {x : ℕ} → half ≤ n → x ≡ 2 * half - 1 - n → negsuc x ≡ fromTwos half n
+from-high half n h q = simp (le-ltb _ _ h) (ap negsuc q)
+
+pub twos-from : (half n : ℕ) → n < 2 * half → twosOf (2 * half - 1) (fromTwos half n) ≡ n
+twos-from half n h = elim (lt-or-ge n half) [
+  | inl l ↦ ap (twosOf (2 * half - 1)) (sym (from-low half n l))
+  | inr g ↦ ap (twosOf (2 * half - 1)) (sym (from-high half n g refl)) ∙ omega arith
+]
+
+pub from-twos : (half : ℕ) (z : ℤ) → mag z < half → fromTwos half (twosOf (2 * half - 1) z) ≡ z
+from-twos half (pos n) h = sym (from-low half n h)
+from-twos half (negsuc n) h = sym (from-high half (2 * half - 1 - n) (omega arith) (omega arith))

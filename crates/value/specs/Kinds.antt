@@ -1,0 +1,74 @@
+-- The ten kinds: their list, their numbers, their forms. RULES.md: The ten kinds.
+use Prim.Native.Nat.{ℕ, zero, suc, _+_}
+use mathlib.Core.List.{List, [], _∷_}
+use lib.Ieee.{Format, binary32, binary64}
+use Rattle.float.specs.Format.{fractionOf, exponentOf}
+use Rattle.value.specs.declared.Kind.{Kind}
+use Rattle.value.specs.declared.Kind.the-variants as kind
+use Rattle.value.specs.declared.Value.{Value}
+use Rattle.value.specs.declared.Value.the-variants.{U8, U16, U32, U64, I8, I16, I32, I64, F32, F64}
+use Rattle.value.specs.declared.KindFound.{KindFound}
+use Rattle.value.specs.declared.KindFound.the-variants.{Is, Nothing}
+
+abbrev pub kindOf : Value → Kind
+kindOf (U8 n) = kind.U8
+kindOf (U16 n) = kind.U16
+kindOf (U32 n) = kind.U32
+kindOf (U64 n) = kind.U64
+kindOf (I8 z) = kind.I8
+kindOf (I16 z) = kind.I16
+kindOf (I32 z) = kind.I32
+kindOf (I64 z) = kind.I64
+kindOf (F32 x w) = kind.F32
+kindOf (F64 x w) = kind.F64
+
+-- a kind's place in the list of kinds
+abbrev pub kindNumber : Kind → ℕ
+kindNumber kind.U8 = 0
+kindNumber kind.U16 = 1
+kindNumber kind.U32 = 2
+kindNumber kind.U64 = 3
+kindNumber kind.I8 = 4
+kindNumber kind.I16 = 5
+kindNumber kind.I32 = 6
+kindNumber kind.I64 = 7
+kindNumber kind.F32 = 8
+kindNumber kind.F64 = 9
+
+abbrev pub allKinds : List Kind
+allKinds = kind.U8 ∷ kind.U16 ∷ kind.U32 ∷ kind.U64 ∷ kind.I8 ∷ kind.I16 ∷ kind.I32 ∷ kind.I64 ∷ kind.F32 ∷ kind.F64 ∷ []
+
+-- the kind at a place of a list, if there is one
+abbrev pub kindIn : List Kind → ℕ → KindFound
+kindIn [] n = Nothing
+kindIn (k ∷ ks) zero = Is k
+kindIn (k ∷ ks) (suc n) = kindIn ks n
+
+abbrev pub kindAt : ℕ → KindFound
+kindAt n = kindIn allKinds n
+
+-- the three forms: unsigned and signed of a number of bits, and a float format
+pub data Form : Type 0 where
+  unsigned signed : ℕ → Form
+  float : Format → Form
+
+abbrev pub formOf : Kind → Form
+formOf kind.U8 = unsigned 8
+formOf kind.U16 = unsigned 16
+formOf kind.U32 = unsigned 32
+formOf kind.U64 = unsigned 64
+formOf kind.I8 = signed 8
+formOf kind.I16 = signed 16
+formOf kind.I32 = signed 32
+formOf kind.I64 = signed 64
+formOf kind.F32 = float binary32
+formOf kind.F64 = float binary64
+
+-- how many bits a kind has
+abbrev pub bitsFor : Form → ℕ
+bitsFor (unsigned n) = n
+bitsFor (signed n) = n
+bitsFor (float f) = suc (fractionOf f + exponentOf f)
+
+abbrev pub widthOf : Kind → ℕ
+widthOf k = bitsFor (formOf k)

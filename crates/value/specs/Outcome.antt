@@ -1,0 +1,21 @@
+-- What a call answers, in the words of the rules: a result, or the number and the place of a refusal. RULES.md: Refusals.
+use Prim.Native.Nat.{ℕ}
+use mathlib.Core.Bool.{Bool, true, false}
+use Rattle.value.specs.declared.Refusal.{Refusal}
+
+pub data Outcome (A : Type 0) : Type 0 where
+  gives : A → Outcome A
+  refuses : ℕ → ℕ → Outcome A
+
+-- the number and the place when the rule holds, else what follows
+abbrev pub refuseIf : {A : Type 0} → Bool → ℕ → ℕ → Outcome A → Outcome A
+refuseIf true number place next = refuses number place
+refuseIf false number place next = next
+
+abbrev pub refusalOf : {A : Type 0} → Refusal → Outcome A
+refusalOf f = refuses (f .number) (f .place)
+
+-- the same outcome with the result put through a function
+abbrev pub mapped : {A B : Type 0} → (A → B) → Outcome A → Outcome B
+mapped f (gives a) = gives (f a)
+mapped f (refuses number place) = refuses number place

@@ -1,0 +1,53 @@
+// Values of ten kinds, and what each stands for. A float kind carries a float; the pattern of a NaN, which no float can tell, stands beside it.
+// Every rule of the crates above speaks of a value's kind, its bits and its number (docs/RULES.md: The ten kinds), never of its parts.
+mod kinds;
+mod patterns;
+
+pub use kinds::kind_number;
+pub use kinds::kind_of;
+pub use kinds::kind_of_number;
+pub use patterns::bits_f32;
+pub use patterns::bits_f64;
+pub use patterns::bits_of;
+pub use patterns::f32_value;
+pub use patterns::f64_value;
+pub use patterns::value_of;
+
+pub enum Kind {
+    U8,
+    U16,
+    U32,
+    U64,
+    I8,
+    I16,
+    I32,
+    I64,
+    F32,
+    F64,
+}
+
+// The second part of a float case is the pattern of its NaN: it is looked at only when the float is a NaN.
+pub enum Value {
+    U8(u8),
+    U16(u16),
+    U32(u32),
+    U64(u64),
+    I8(i8),
+    I16(i16),
+    I32(i32),
+    I64(i64),
+    F32(f32, u32),
+    F64(f64, u64),
+}
+
+// The number of the rule that refused, and the place of the first field or sample that it met.
+pub struct Refusal {
+    pub number: u8,
+    pub place: usize,
+}
+
+// The kind with a number, if there is one.
+pub enum KindFound {
+    Is(Kind),
+    Nothing,
+}

@@ -1,0 +1,185 @@
+//! Random case lines: edges and random patterns mixed, with malformed lines
+//! between them.
+
+use crate::edges;
+use crate::lines::LINE_KINDS;
+use crate::malformed;
+use crate::random::Random;
+use crate::value::{Kind, Value};
+
+/// An endless row of case lines, without newlines.
+pub struct Cases {
+    random: Random,
+}
+
+impl Cases {
+    pub fn new(seed: u64) -> Cases {
+        Cases {
+            random: Random::new(seed),
+        }
+    }
+}
+
+impl Iterator for Cases {
+    type Item = Vec<u8>;
+
+    fn next(&mut self) -> Option<Vec<u8>> {
+        let random = &mut self.random;
+        Some(match random.below(3000) {
+            0 => malformed::long(random),
+            1..120 => malformed::short(random),
+            _ => well_formed(random).into_bytes(),
+        })
+    }
+}
+
+pub fn well_formed(random: &mut Random) -> String {
+    let line_kind = &LINE_KINDS[random.below(LINE_KINDS.len())];
+    format!("{} {}", line_kind.word, (line_kind.make)(random))
+}
+
+/// One value of a float kind.
+pub fn one_float(random: &mut Random) -> String {
+    let kind = random.pick(&Kind::FLOATS);
+    value(random, kind).to_string()
+}
+
+/// Two values, mostly of one kind.
+pub fn pair(random: &mut Random) -> String {
+    let kind = any_kind(random);
+    let first = value(random, kind);
+    let second = partner(random, first);
+    format!("{first} {second}")
+}
+
+/// Half of the time a float kind.
+pub fn any_kind(random: &mut Random) -> Kind {
+    if random.one_in(2) {
+        random.pick(&Kind::FLOATS)
+    } else {
+        random.pick(&Kind::INTEGERS)
+    }
+}
+
+pub fn value(random: &mut Random, kind: Kind) -> Value {
+    if random.one_in(2) {
+        edges::near_edge(random, kind)
+    } else {
+        random_value(random, kind)
+    }
+}
+
+/// A second operand: often equal or close to the first, now and then of
+/// another kind.
+pub fn partner(random: &mut Random, first: Value) -> Value {
+    let kind = first.kind;
+    match random.below(16) {
+        0..4 => first,
+        4 => Value::new(kind, first.bits ^ kind.top()),
+        5 => edges::neighbour(random, first),
+        6..8 => {
+            let low = kind.mask() >> (kind.width() / 2);
+            Value::new(kind, first.bits & !low | random.next() & low)
+        }
+        8 => of_another_kind(random, first),
+        _ => value(random, kind),
+    }
+}
+
+/// Half of the time the same bits under the other kind's name.
+fn of_another_kind(random: &mut Random, first: Value) -> Value {
+    let mut kind = any_kind(random);
+    while kind == first.kind {
+        kind = any_kind(random);
+    }
+    if random.one_in(2) {
+        Value::new(kind, first.bits)
+    } else {
+        value(random, kind)
+    }
+}
+
+fn random_value(random: &mut Random, kind: Kind) -> Value {
+    let bits = random.next();
+    if random.one_in(2) {
+        return Value::new(kind, bits);
+    }
+    match kind {
+        Kind::F32 => Value::new(kind, with_exponent(random, bits, 23, 0xff, 127)),
+        Kind::F64 => Value::new(kind, with_exponent(random, bits, 52, 0x7ff, 1023)),
+        _ => small_integer(random, kind, bits),
+    }
+}
+
+/// Puts an exponent in that plain random bits seldom have: all clear, all set,
+/// or within 80 of the one of 1.
+fn with_exponent(random: &mut Random, bits: u64, fraction: u32, all_set: u64, one: u64) -> u64 {
+    let exponent = match random.below(4) {
+        0 => 0,
+        1 => all_set,
+        _ => one - 80 + random.below(161) as u64,
+    };
+    bits & !(all_set << fraction) | exponent << fraction
+}
+
+/// A number of any length in bits, of either sign.
+fn small_integer(random: &mut Random, kind: Kind, bits: u64) -> Value {
+    let size = (bits & kind.mask()) >> random.below(kind.width() as usize);
+    let signed = if random.one_in(2) {
+        size
+    } else {
+        size.wrapping_neg()
+    };
+    Value::new(kind, signed)
+}
+
+#[cfg(test)]
+mod tests {
+    use super::*;
+    use crate::lines;
+
+    #[test]
+    fn well_formed_lines_are_well_formed() {
+        let mut random = Random::new(5);
+        for _ in 0..50_000 {
+            let line = well_formed(&mut random);
+            assert_ne!(lines::answer(line.as_bytes()), lines::MALFORMED, "{line}");
+        }
+    }
+
+    #[test]
+    fn lines_are_short_or_malformed() {
+        for line in Cases::new(6).take(50_000) {
+            let long = line.len() > 200;
+            assert!(!line.contains(&b'\n'));
+            assert!(!long || line.len() >= 1000 && lines::answer(&line) == lines::MALFORMED);
+        }
+    }
+
+    #[test]
+    fn every_answer_occurs() {
+        let wanted = [
+            "zero",
+            "subnormal",
+            "normal",
+            "infinite",
+            "nan",
+            "Less",
+            "Equal",
+            "Greater",
+            "Unordered",
+            "yes",
+            "no",
+            "refused 7 0",
+            "malformed",
+        ];
+        let answers: Vec<String> = Cases::new(8)
+            .take(50_000)
+            .map(|line| lines::answer(&line))
+            .collect();
+        for answer in wanted {
+            let count = answers.iter().filter(|given| *given == answer).count();
+            assert!(count > 100, "{answer} {count}");
+        }
+    }
+}

@@ -1,0 +1,257 @@
+//! Lines that aren't of the grammar: each a case line spoiled in one way.
+
+use crate::cases;
+use crate::odd;
+use crate::random::Random;
+use crate::value::{Kind, Value};
+
+const WORDS: [&str; 8] = ["compare", "total", "eq", "ne", "lt", "le", "gt", "ge"];
+
+const WAYS: [fn(&mut Random) -> Vec<u8>; 15] = [
+    unknown_word,
+    unknown_kind,
+    operand_count,
+    digit_count,
+    upper_case_digit,
+    foreign_digit,
+    odd_operand,
+    odd_parting,
+    odd_start,
+    odd_end,
+    class_of_integer,
+    cut_short,
+    out_of_order,
+    blank,
+    noise,
+];
+
+/// At most 200 bytes.
+pub fn short(random: &mut Random) -> Vec<u8> {
+    random.pick(&WAYS)(random)
+}
+
+/// Some thousand bytes.
+pub fn long(random: &mut Random) -> Vec<u8> {
+    let count = 2000 + random.below(4000);
+    let mut fields = fields(random);
+    match random.below(6) {
+        0 => fields[0] = vec![b'e'; count],
+        1 => fields[1].extend(vec![b'0'; count]),
+        2 => fields.extend(vec![b"u8:00".to_vec(); count / 6]),
+        3 => fields.extend(vec![Vec::new(); count]),
+        4 => fields[1].splice(0..0, vec![b' '; count]).for_each(drop),
+        _ => fields[1] = (0..count).map(|_| noise_byte(random)).collect(),
+    }
+    joined(&fields)
+}
+
+/// The fields of a case line that is well formed.
+fn fields(random: &mut Random) -> Vec<Vec<u8>> {
+    let line = if random.one_in(4) {
+        format!("class {}", cases::one_float(random))
+    } else {
+        format!("{} {}", random.pick(&WORDS), cases::pair(random))
+    };
+    line.split(' ')
+        .map(|field| field.as_bytes().to_vec())
+        .collect()
+}
+
+fn joined(fields: &[Vec<u8>]) -> Vec<u8> {
+    fields.join(&b' ')
+}
+
+/// A case line in which one operand is changed.
+fn with_operand(random: &mut Random, change: fn(&mut Random, Value) -> Vec<u8>) -> Vec<u8> {
+    let mut fields = fields(random);
+    let place = 1 + random.below(fields.len() - 1);
+    let value = Value::parse(&fields[place]).expect("a value of our own making");
+    fields[place] = change(random, value);
+    joined(&fields)
+}
+
+fn unknown_word(random: &mut Random) -> Vec<u8> {
+    let mut fields = fields(random);
+    let word = &mut fields[0];
+    match random.below(6) {
+        0 => word.make_ascii_uppercase(),
+        1 => word[0].make_ascii_uppercase(),
+        2 => word.truncate(word.len() - 1),
+        3 => word.extend(word.clone()),
+        _ => *word = random.pick(&odd::WORDS).as_bytes().to_vec(),
+    }
+    joined(&fields)
+}
+
+fn unknown_kind(random: &mut Random) -> Vec<u8> {
+    with_operand(random, |random, value| {
+        let text = value.to_string();
+        let (kind, digits) = text.split_once(':').expect("a colon");
+        let kind = match random.below(4) {
+            0 => kind.to_ascii_uppercase(),
+            _ => random.pick(&odd::KINDS).to_string(),
+        };
+        format!("{kind}:{digits}").into_bytes()
+    })
+}
+
+fn operand_count(random: &mut Random) -> Vec<u8> {
+    let mut fields = fields(random);
+    match random.below(4) {
+        0 => fields.truncate(1),
+        1 => fields.truncate(fields.len() - 1),
+        2 => fields.extend_from_within(1..),
+        _ => {
+            let kind = cases::any_kind(random);
+            fields.push(cases::value(random, kind).to_string().into_bytes());
+        }
+    }
+    joined(&fields)
+}
+
+fn digit_count(random: &mut Random) -> Vec<u8> {
+    with_operand(random, |random, value| {
+        let mut text = value.to_string().into_bytes();
+        let first = text.len() - value.kind.digits();
+        match random.below(6) {
+            0 => text.truncate(text.len() - 1),
+            1 => text.truncate(first),
+            2 => text.push(b'0'),
+            3 => text.insert(first, b'0'),
+            4 => text.extend_from_within(first..),
+            _ => text.truncate(first + value.kind.digits() / 2),
+        }
+        text
+    })
+}
+
+fn upper_case_digit(random: &mut Random) -> Vec<u8> {
+    with_operand(random, |random, value| with_digit(random, value, b"ABCDEF"))
+}
+
+/// Among the foreign digits are the neighbours of the digits by byte.
+fn foreign_digit(random: &mut Random) -> Vec<u8> {
+    with_operand(random, |random, value| {
+        with_digit(random, value, b"/:@G`gxXzOl-+_., \x00\x7f\x80\xff")
+    })
+}
+
+fn with_digit(random: &mut Random, value: Value, digits: &[u8]) -> Vec<u8> {
+    let mut text = value.to_string().into_bytes();
+    let place = text.len() - 1 - random.below(value.kind.digits());
+    text[place] = random.pick(digits);
+    text
+}
+
+fn odd_operand(random: &mut Random) -> Vec<u8> {
+    with_operand(random, |random, value| match random.below(4) {
+        0 => format!("{value},{value}").into_bytes(),
+        1 => value.to_string().replace(':', "").into_bytes(),
+        _ => random.pick(&odd::OPERANDS).as_bytes().to_vec(),
+    })
+}
+
+fn odd_parting(random: &mut Random) -> Vec<u8> {
+    let fields = fields(random);
+    let odd = 1 + random.below(fields.len() - 1);
+    let mut line = fields[0].clone();
+    for (place, field) in fields.iter().enumerate().skip(1) {
+        let parting = if place == odd {
+            random.pick(&odd::PARTINGS)
+        } else {
+            " "
+        };
+        line.extend_from_slice(parting.as_bytes());
+        line.extend_from_slice(field);
+    }
+    line
+}
+
+fn odd_start(random: &mut Random) -> Vec<u8> {
+    let line = joined(&fields(random));
+    [random.pick(&odd::STARTS).as_bytes(), &line].concat()
+}
+
+fn odd_end(random: &mut Random) -> Vec<u8> {
+    let line = joined(&fields(random));
+    [&line, random.pick(&odd::ENDS).as_bytes()].concat()
+}
+
+fn class_of_integer(random: &mut Random) -> Vec<u8> {
+    let kind = random.pick(&Kind::INTEGERS);
+    format!("class {}", cases::value(random, kind)).into_bytes()
+}
+
+fn cut_short(random: &mut Random) -> Vec<u8> {
+    let mut line = joined(&fields(random));
+    line.truncate(random.below(line.len()));
+    line
+}
+
+fn out_of_order(random: &mut Random) -> Vec<u8> {
+    let mut fields = fields(random);
+    match random.below(3) {
+        0 => fields.reverse(),
+        1 => fields.rotate_left(1),
+        _ => fields.extend_from_within(..),
+    }
+    joined(&fields)
+}
+
+fn blank(random: &mut Random) -> Vec<u8> {
+    random
+        .pick(&["", "", " ", "  ", "\t", "\r", "\0"])
+        .as_bytes()
+        .to_vec()
+}
+
+fn noise(random: &mut Random) -> Vec<u8> {
+    let length = 1 + random.below(60);
+    let printable = random.one_in(2);
+    let byte = |random: &mut Random| match printable {
+        true => b' ' + random.below(95) as u8,
+        false => noise_byte(random),
+    };
+    (0..length).map(|_| byte(random)).collect()
+}
+
+/// Any byte but a newline.
+fn noise_byte(random: &mut Random) -> u8 {
+    match random.below(255) as u8 {
+        b'\n' => 255,
+        byte => byte,
+    }
+}
+
+#[cfg(test)]
+mod tests {
+    use super::*;
+    use crate::lines;
+
+    #[test]
+    fn every_way_gives_a_malformed_line() {
+        let mut random = Random::new(9);
+        for way in WAYS {
+            for _ in 0..2000 {
+                let line = way(&mut random);
+                assert!(line.len() <= 200 && !line.contains(&b'\n'));
+                assert_eq!(
+                    lines::answer(&line),
+                    lines::MALFORMED,
+                    "{}",
+                    line.escape_ascii()
+                );
+            }
+        }
+    }
+
+    #[test]
+    fn long_lines_are_malformed() {
+        let mut random = Random::new(10);
+        for _ in 0..500 {
+            let line = long(&mut random);
+            assert!(line.len() >= 2000 && line.len() < 10_000 && !line.contains(&b'\n'));
+            assert_eq!(lines::answer(&line), lines::MALFORMED);
+        }
+    }
+}

@@ -1,0 +1,78 @@
+//! Pieces that make a line malformed wherever they are put in. No word here may
+//! become the word of a line kind.
+
+/// In the place of the word.
+pub const WORDS: [&str; 18] = [
+    "",
+    "-",
+    "#",
+    "//",
+    "==",
+    "<",
+    "cmp",
+    "equal",
+    "less",
+    "classify",
+    "total_cmp",
+    "tot",
+    "yes",
+    "Less",
+    "malformed",
+    "refused",
+    "f32",
+    "f32:00000000",
+];
+
+/// In the place of a kind.
+pub const KINDS: [&str; 22] = [
+    "", "u", "f", "8", "32", "u7", "u08", "u24", "u128", "i128", "usize", "isize", "bool", "char",
+    "f16", "f23", "f128", "f320", "float", "double", "nan", "f32f32",
+];
+
+/// In the place of a value. Some have the right number of characters.
+pub const OPERANDS: [&str; 30] = [
+    "",
+    "-",
+    "0",
+    "1.5",
+    "nan",
+    ":",
+    "::",
+    "f32",
+    "f32:",
+    ":00000000",
+    "00000000",
+    "f32:nan",
+    "f32:inf",
+    "f32:1.5",
+    "f32:1.500000",
+    "u8:255",
+    "u8:-1",
+    "u8:+1",
+    "i8:-1",
+    "i8:+7",
+    "u8:0x",
+    "u16:0x12",
+    "f32:0x000000",
+    "u8:00,",
+    ",u8:00",
+    "u8:00,u8:01",
+    "f32::00000000",
+    "f32=00000000",
+    "f32:00000000:",
+    "\"u8:00\"",
+];
+
+/// In the place of the one space between fields.
+pub const PARTINGS: [&str; 14] = [
+    "", "  ", "   ", "\t", " \t", "\t ", ",", ", ", ":", "\0", "\r", "\u{b}", "\u{c}", "\u{a0}",
+];
+
+/// Before a case line.
+pub const STARTS: [&str; 9] = [" ", "  ", "\t", "\r", "\0", "-", "#", "> ", "\u{feff}"];
+
+/// After a case line.
+pub const ENDS: [&str; 16] = [
+    " ", "  ", "\t", "\r", " \r", "\0", ".", ",", ";", " -", " #", "\u{b}", "\u{c}", "\u{85}",
+    "\u{a0}", "\u{2028}",
+];

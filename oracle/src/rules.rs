@@ -1,0 +1,136 @@
+//! The rules in whole numbers, for the tests alone: class, scaled number,
+//! comparison and total order, without any float.
+
+use std::cmp::Ordering;
+
+use crate::value::{Kind, Value};
+
+/// Low limb first. The greatest scaled number, of f64, is below 2^2098.
+type Whole = [u64; 33];
+
+pub fn abs(value: Value) -> u64 {
+    value.bits - if negative(value) { value.kind.top() } else { 0 }
+}
+
+/// The sign bit is set.
+fn negative(value: Value) -> bool {
+    value.bits >= value.kind.top()
+}
+
+fn infinity(kind: Kind) -> u64 {
+    match kind {
+        Kind::F32 => 0x7f80_0000,
+        Kind::F64 => 0x7ff0_0000_0000_0000,
+        _ => panic!("not a float kind"),
+    }
+}
+
+/// Two to the number of fraction bits; also the least normal `abs`.
+fn unit(kind: Kind) -> u64 {
+    match kind {
+        Kind::F32 => 0x0080_0000,
+        Kind::F64 => 0x0010_0000_0000_0000,
+        _ => panic!("not a float kind"),
+    }
+}
+
+pub fn class(value: Value) -> &'static str {
+    let abs = abs(value);
+    match abs.cmp(&infinity(value.kind)) {
+        Ordering::Greater => "nan",
+        Ordering::Equal => "infinite",
+        Ordering::Less if abs == 0 => "zero",
+        Ordering::Less if abs < unit(value.kind) => "subnormal",
+        Ordering::Less => "normal",
+    }
+}
+
+/// The magnitude of the scaled number of a finite value.
+pub fn scaled(value: Value) -> Whole {
+    let unit = unit(value.kind);
+    let (exponent, fraction) = (abs(value) / unit, abs(value) % unit);
+    match exponent {
+        0 => shifted(fraction, 0),
+        _ => shifted(unit + fraction, exponent - 1),
+    }
+}
+
+fn shifted(number: u64, by: u64) -> Whole {
+    let mut whole = [0; 33];
+    let (limb, bit) = ((by / 64) as usize, by % 64);
+    let wide = u128::from(number) << bit;
+    whole[limb] = wide as u64;
+    // The high part of a number in the last limb is always 0.
+    if limb + 1 < whole.len() {
+        whole[limb + 1] = (wide >> 64) as u64;
+    }
+    whole
+}
+
+/// Comparison of two values of one kind; nothing for Unordered.
+pub fn compare(a: Value, b: Value) -> Option<Ordering> {
+    if !a.kind.is_float() {
+        return Some(integer(a).cmp(&integer(b)));
+    }
+    let infinity = infinity(a.kind);
+    if abs(a) > infinity || abs(b) > infinity {
+        return None;
+    }
+    let rank = |value| match (abs(value) == infinity, negative(value)) {
+        (true, true) => -1,
+        (false, _) => 0,
+        (true, false) => 1,
+    };
+    let ranks = (rank(a), rank(b));
+    Some(if ranks == (0, 0) {
+        compare_scaled(a, b)
+    } else {
+        ranks.0.cmp(&ranks.1)
+    })
+}
+
+fn compare_scaled(a: Value, b: Value) -> Ordering {
+    let (x, y) = (scaled(a), scaled(b));
+    let zero = shifted(0, 0);
+    match (negative(a) && x != zero, negative(b) && y != zero) {
+        (false, false) => x.iter().rev().cmp(y.iter().rev()),
+        (true, true) => y.iter().rev().cmp(x.iter().rev()),
+        (false, true) => Ordering::Greater,
+        (true, false) => Ordering::Less,
+    }
+}
+
+/// Total order of two values of one kind.
+pub fn total(a: Value, b: Value) -> Ordering {
+    if a.kind.is_float() {
+        position(a).cmp(&position(b))
+    } else {
+        integer(a).cmp(&integer(b))
+    }
+}
+
+pub fn position(value: Value) -> i128 {
+    let abs = i128::from(abs(value));
+    if negative(value) {
+        -1 - abs
+    } else {
+        abs
+    }
+}
+
+/// The number that an integer kind's bits stand for.
+fn integer(value: Value) -> i128 {
+    let signed = matches!(value.kind, Kind::I8 | Kind::I16 | Kind::I32 | Kind::I64);
+    let below = if signed && negative(value) {
+        1i128 << value.kind.width()
+    } else {
+        0
+    };
+    i128::from(value.bits) - below
+}
+
+/// A whole number that fits in 128 bits, else nothing.
+pub fn narrow(whole: Whole) -> Option<u128> {
+    let fits = whole[2..].iter().all(|&limb| limb == 0);
+    fits.then_some(u128::from(whole[1]) << 64 | u128::from(whole[0]))
+}
