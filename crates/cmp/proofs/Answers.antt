@@ -4,7 +4,6 @@ use mathlib.Core.List.{List, _∷_}
 use mathlib.Core.Bool.{Bool, true, false, not}
 use Prim.Native.Nat.{ℕ}
 use lib.Dec.{T, eqb, ltb}
-use borrow.Author.Tests.{eqb-true, not-false}
 use lib.IntN.{ℤ}
 use lib.Ieee.{Format}
 use types.Run.{OneOf}
@@ -23,7 +22,7 @@ use Rattle.value.specs.declared.Refusal.{Refusal}
 use Rattle.cmp.specs.declared.Compared.{Compared}
 use Rattle.cmp.specs.declared.Compared.the-variants as compared
 use Rattle.cmp.specs.Compare.{kindsDiffer, compareOf, totalOf, comparedOutcome}
-use Rattle.cmp.proofs.KindTests.{all, kind-keys, differ, alike}
+use Rattle.cmp.proofs.KindTests.{all, kind-keys, differ, alike, one-kind}
 use Rattle.cmp.proofs.Numbers.{integers-order, patterns-order, positions-order}
 
 -- ---- the arm `_`: b is of another kind
@@ -60,9 +59,7 @@ module _ {a a' b b' : Value} (q : a ≡ a') (u : b ≡ b') (k : kindOf a' ≡ ki
 same-answer : (a b : Value) (t : Bool) → kindsDiffer a b ≡ t → T (ltb (kindNumber (kindOf a)) 8)
     → refuseIf t 7 0 (gives (orderOf (numberOf a) (numberOf b))) ≡ refuseIf t 7 0 (gives (orderZ (positionOf a) (positionOf b)))
 same-answer a b true e h = refl
-same-answer a b false e h =
-    let k : kindNumber (kindOf a) ≡ kindNumber (kindOf b) = eqb-true _ _ (not-false _ e) in
-    ap gives (positions-order a b h (subst (λ (n : ℕ). T (ltb n 8)) k h))
+same-answer a b false e h = ap gives (positions-order a b h (subst (λ (n : ℕ). T (ltb n 8)) (one-kind a b e) h))
 
 pub total-integers : (j : ℕ) (js : List ℕ) (a b : Value) → OneOf (j ∷ js) (tagOf the-type a) → T (all (λ n. ltb n 8) j js) → compareOf a b ≡ totalOf a b
 unfolding compareOf totalOf

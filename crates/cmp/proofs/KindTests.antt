@@ -5,7 +5,7 @@ use mathlib.Core.List.{List, [], _∷_}
 use mathlib.Core.Bool.{Bool, true, false, not, _&&_}
 use Prim.Native.Nat.{ℕ}
 use lib.Dec.{T, eqb, ltb}
-use borrow.Author.Tests.{eq-eqb}
+use borrow.Author.Tests.{eq-eqb, eqb-true, not-false}
 use types.Run.{OneOf}
 use denote.Enum.Declared.{tagOf}
 use Rattle.value.specs.declared.Value.{Value}
@@ -40,7 +40,7 @@ and-right : (a b : Bool) → T (a && b) → T b
 and-right true b t = t
 and-right false b t = absurd t
 
-all-keys : (p : ℕ → Bool) (j : ℕ) (js : List ℕ) (x : ℕ) → T (all p j js) → OneOf (j ∷ js) x → T (p x)
+pub all-keys : (p : ℕ → Bool) (j : ℕ) (js : List ℕ) (x : ℕ) → T (all p j js) → OneOf (j ∷ js) x → T (p x)
 all-keys p j [] x t q = subst (λ (n : ℕ). T (p n)) (sym q) t
 all-keys p j (i ∷ is) x t (inl q) = subst (λ (n : ℕ). T (p n)) (sym q) (and-left (p j) (all p i is) t)
 all-keys p j (i ∷ is) x t (inr q) = all-keys p i is x (and-right (p j) (all p i is) t) q
@@ -48,7 +48,7 @@ all-keys p j (i ∷ is) x t (inr q) = all-keys p i is x (and-right (p j) (all p 
 pub kind-keys : (p : ℕ → Bool) (j : ℕ) (js : List ℕ) (v : Value) → T (all p j js) → OneOf (j ∷ js) (tagOf the-type v) → T (p (kindNumber (kindOf v)))
 kind-keys p j js v t o = all-keys p j js (kindNumber (kindOf v)) t (subst (λ (n : ℕ). OneOf (j ∷ js) n) (kind-tag v) o)
 
-is-true : (b : Bool) → T b → b ≡ true
+pub is-true : (b : Bool) → T b → b ≡ true
 is-true true t = refl
 is-true false t = absurd t
 
@@ -59,3 +59,6 @@ differ j js {a} {a'} b q o t =
 
 pub alike : {a a' b b' : Value} → a ≡ a' → b ≡ b' → kindOf a' ≡ kindOf b' → kindsDiffer a b ≡ false
 alike q u k = ap not (eq-eqb _ _ (ap kindNumber (ap kindOf q ∙ k ∙ sym (ap kindOf u))))
+
+pub one-kind : (a b : Value) → kindsDiffer a b ≡ false → kindNumber (kindOf a) ≡ kindNumber (kindOf b)
+one-kind a b h = eqb-true _ _ (not-false (eqb (kindNumber (kindOf a)) (kindNumber (kindOf b))) h)

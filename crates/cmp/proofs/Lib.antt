@@ -3,3 +3,7 @@ pub mod Numbers
 pub mod Answers
 pub mod SameNumber
 pub mod Determined
+pub mod OrderKeys
+pub mod Choice
+pub mod Samples
+pub mod Cases

@@ -3,7 +3,6 @@ use mathlib.Core.Path.{_≡_, refl, sym, _∙_, ap, subst}
 use mathlib.Core.Bool.{Bool, true, false, not}
 use Prim.Native.Nat.{ℕ}
 use native.Mathlib.Omega.{arith}
-use borrow.Author.Tests.{eqb-true, not-false}
 use Rattle.float.specs.Number.{none}
 use Rattle.float.specs.Order.{orderOf}
 use Rattle.float.specs.declared.Order.{Order}
@@ -15,7 +14,7 @@ use Rattle.value.specs.Meaning.{numberOf}
 use Rattle.value.specs.Outcome.{Outcome, gives, refuses, refuseIf}
 use Rattle.value.proofs.KindNumbers.{number-injective}
 use Rattle.cmp.specs.Compare.{kindsDiffer, compareOf}
-use Rattle.cmp.proofs.KindTests.{alike}
+use Rattle.cmp.proofs.KindTests.{alike, one-kind}
 
 given-order : (t : Bool) {o p : Order} → refuseIf t 7 0 (gives o) ≡ gives p → (t ≡ false) × (o ≡ p)
 given-order true h = absurd (let q : _≡_ {A = ℕ} 0 1 = cc in omega arith)
@@ -26,7 +25,7 @@ pub compared-order : (a b : Value) (o : Order) → compareOf a b ≡ gives o →
 unfolding compareOf
 compared-order a b o h =
     let g = given-order (kindsDiffer a b) h in
-    (number-injective (kindOf a) (kindOf b) (eqb-true _ _ (not-false _ (g .0))), g .1)
+    (number-injective (kindOf a) (kindOf b) (one-kind a b (g .0)), g .1)
 
 pub equal-number : (a b : Value) → compareOf a b ≡ gives Equal → (kindOf a ≡ kindOf b) × (numberOf a ≡ numberOf b) × (numberOf a ≡ none → ⊥)
 equal-number a b h =

@@ -1,9 +1,9 @@
--- Class by class, what a pattern stands for; and that a finite pattern's number is its scaled number.
+-- Class by class: the tests that pick it, and what its patterns stand for. A finite pattern's number is its scaled number.
 use mathlib.Core.Path.{_≡_, refl, sym, _∙_, ap, subst}
 use mathlib.Core.Bool.{Bool, true, false, cond}
 use Prim.Native.Nat.{ℕ, zero, suc, _+_, _-_, _^_, _≤_, _<_}
 use native.Mathlib.Omega.{arith}
-use borrow.Author.Tests.{ltb-true, ltb-false, eqb-true, eqb-false}
+use borrow.Author.Tests.{ltb-true, ltb-false, eqb-true, eqb-false, lt-ltb, le-ltb, eq-eqb, ne-eqb}
 use lib.Dec.{ltb, eqb}
 use lib.IntN.{ℤ, pos}
 use Rattle.float.specs.declared.Class.{Class}
@@ -14,6 +14,31 @@ use Rattle.float.specs.Order.{patternOf}
 use Rattle.float.specs.ClassMeaning.{largestOf, ClassMeans}
 use Rattle.float.proofs.Magnitude.{mag-grows, mag-small, mag-normal, mag-zero, mag-largest}
 use Rattle.float.proofs.Comparing.{pattern-nan, pattern-infinite, pattern-finite}
+
+-- ---- the tests, for a function that has abs in a local
+
+module _ (p e b : ℕ) {x : ℕ} (q : x ≡ absOf p e b) where
+  picked : {c : Class} → classAt p e x ≡ c → c ≡ classOf p e b
+  unfolding classOf
+  picked h = sym h ∙ ap (classAt p e) q
+
+  pub class-nan : infOf p e < x → Nan ≡ classOf p e b
+  class-nan a = picked (simp (lt-ltb _ _ a))
+
+  pub class-infinite : x ≤ infOf p e → x ≡ infOf p e → Infinite ≡ classOf p e b
+  class-infinite a c = picked (simp (le-ltb _ _ a, eq-eqb _ _ c))
+
+  module _ (a : x ≤ infOf p e) (c : x ≡ infOf p e → ⊥) where
+    pub class-zero : x ≡ 0 → Zero ≡ classOf p e b
+    class-zero d = picked (simp (le-ltb _ _ a, ne-eqb _ _ c, eq-eqb _ _ d))
+
+    pub class-subnormal : (x ≡ 0 → ⊥) → x < 2 ^ p → Subnormal ≡ classOf p e b
+    class-subnormal d f = picked (simp (le-ltb _ _ a, ne-eqb _ _ c, ne-eqb _ _ d, lt-ltb _ _ f))
+
+    pub class-normal : (x ≡ 0 → ⊥) → 2 ^ p ≤ x → Normal ≡ classOf p e b
+    class-normal d f = picked (simp (le-ltb _ _ a, ne-eqb _ _ c, ne-eqb _ _ d, le-ltb _ _ f))
+
+-- ---- what a class stands for
 
 signed-zero : (s : Bool) → signedOf s 0 ≡ pos 0
 signed-zero true = refl

@@ -117,7 +117,7 @@ float-means f x h = subst (λ (v : Float). Means f v (patternOf (fractionOf f) (
 
 -- ---- NaN
 
-pub isNone : Exact → Bool
+unfoldable pub isNone : Exact → Bool
 isNone notNumber = true
 isNone (infinite s) = false
 isNone (finite s m) = false
@@ -139,3 +139,6 @@ none-pattern p e b = go (nanOf p e b) (eqb (absOf p e b) (infOf p e))
 
 pub nan-pattern : (f : Format) (b : ℕ) → b < 2 * top f → isNan (ofBits f b) ≡ nanOf (fractionOf f) (exponentOf f) b
 nan-pattern f b h = nan-means f (pattern-means f b h) ∙ none-pattern (fractionOf f) (exponentOf f) b
+
+pub nan-float : (f : Format) (x : Float) → T (fits f x) → isNone (patternOf (fractionOf f) (exponentOf f) (toBits f x)) ≡ isNan x
+nan-float f x h = sym (nan-means f (float-means f x h))

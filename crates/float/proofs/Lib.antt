@@ -8,3 +8,4 @@ pub mod Language
 pub mod Operators
 pub mod ClassMeaning
 pub mod Cases
+pub mod Turned

@@ -9,9 +9,8 @@ use borrow.Author.Tests.{le-leb, lt-leb}
 use lib.Pow.{pow-pos, pow-mono, shr-mono, split, high, low, high-ones}
 use lib.IntN.{ℤ, pos, negℤ}
 use Rattle.float.specs.Number.{signedOf}
-use Rattle.float.specs.Format.{infOf, negativeOf, absOf, magAt, magOf, classAt, classOf}
+use Rattle.float.specs.Format.{infOf, negativeOf, absOf, magAt, magOf}
 use Rattle.float.specs.ClassMeaning.{largestOf}
-use Rattle.float.specs.declared.Class.{Class}
 use Rattle.float.proofs.Naturals.{lt-or-ge}
 
 -- ---- abs
@@ -39,10 +38,6 @@ signed-clear p e b q h = simp (lt-leb _ _ h) (ap pos q)
 
 pub signed-set : (p e b : ℕ) {x : ℕ} → x ≡ absOf p e b → 2 ^ (p + e) ≤ b → negℤ (pos x) ≡ signedOf (negativeOf p e b) (absOf p e b)
 signed-set p e b q h = simp (le-leb _ _ h) (ap (λ (n : ℕ). negℤ (pos n)) q)
-
-pub class-at : (p e b : ℕ) {x : ℕ} {r : Class} → x ≡ absOf p e b → r ≡ classAt p e x → r ≡ classOf p e b
-unfolding classOf
-class-at p e b q h = h ∙ ap (classAt p e) q
 
 -- ---- the scaled magnitude
 

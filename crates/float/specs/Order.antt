@@ -67,3 +67,6 @@ isGreater o = answer false false true false o
 
 abbrev pub isGreaterOrEqual : Order → Bool
 isGreaterOrEqual o = answer false true true false o
+
+abbrev pub isUnordered : Order → Bool
+isUnordered o = answer false false false true o

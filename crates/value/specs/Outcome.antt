@@ -15,6 +15,11 @@ refuseIf false number place next = next
 abbrev pub refusalOf : {A : Type 0} → Refusal → Outcome A
 refusalOf f = refuses (f .number) (f .place)
 
+-- what follows a result; a refusal stays
+abbrev pub andThen : {A B : Type 0} → Outcome A → (A → Outcome B) → Outcome B
+andThen (gives a) next = next a
+andThen (refuses number place) next = refuses number place
+
 -- the same outcome with the result put through a function
 abbrev pub mapped : {A B : Type 0} → (A → B) → Outcome A → Outcome B
 mapped f (gives a) = gives (f a)

@@ -1,0 +1,130 @@
+-- Choosing and clamping by the orders that were compared.
+use mathlib.Core.Path.{_≡_, refl, sym, _∙_, ap, subst}
+use mathlib.Core.Bool.{Bool, true, false, not, _||_, cond, true≢false}
+use Prim.Native.Nat.{ℕ}
+use native.Mathlib.Omega.{arith}
+use borrow.Author.Tests.{not-true, eq-eqb}
+use Rattle.float.specs.declared.Order.{Order}
+use Rattle.float.specs.declared.Order.the-variants.{Less, Equal, Greater, Unordered}
+use Rattle.float.specs.Order.{isLess, isLessOrEqual, isGreater, isUnordered}
+use Rattle.value.specs.declared.Value.{Value}
+use Rattle.value.specs.declared.Refusal.{Refusal}
+use Rattle.value.specs.Outcome.{Outcome, gives, refuses, refuseIf, refusalOf, andThen}
+use Rattle.cmp.specs.declared.Compared.{Compared}
+use Rattle.cmp.specs.declared.Compared.the-variants as compared
+use Rattle.cmp.specs.Compare.{comparedOutcome, kindsDiffer, compareOf}
+use Rattle.cmp.proofs.KindTests.{one-kind}
+use Rattle.cmp.specs.Choose.{valueOrder, chosenBy, clampedBy, minOf, maxOf, clampOf}
+
+-- ---- after a comparison
+
+module _ {B : Type 0} {c : Compared} where
+  pub then-order : (next : Order → Outcome B) {o : Order} {r : Outcome B} → c ≡ compared.Is o → r ≡ next o → r ≡ andThen (comparedOutcome c) next
+  then-order next q h = h ∙ sym (ap (λ (d : Compared). andThen (comparedOutcome d) next) q)
+
+  pub then-refusal : (next : Order → Outcome B) {f : Refusal} → c ≡ compared.Refused f → refusalOf f ≡ andThen (comparedOutcome c) next
+  then-refusal next q = sym (ap (λ (d : Compared). andThen (comparedOutcome d) next) q)
+
+-- ---- the choice
+
+neither : (x y : Bool) → not (x || y) ≡ true → (x ≡ false) × (y ≡ false)
+neither true y h = (sym h, absurd (true≢false (sym h)))
+neither false true h = (refl, sym h)
+neither false false h = (refl, refl)
+
+module _ {A : Type 0} (one other : A) (o : Order) where
+  pub chosen-unordered : o ≡ Unordered → refuses 8 0 ≡ chosenBy one other o
+  unfolding chosenBy
+  chosen-unordered q = sym (ap (chosenBy one other) q)
+
+  pub chosen-greater : o ≡ Greater → gives other ≡ chosenBy one other o
+  unfolding chosenBy
+  chosen-greater q = sym (ap (chosenBy one other) q)
+
+  pub chosen-other : not (isGreater o || isUnordered o) ≡ true → gives one ≡ chosenBy one other o
+  unfolding chosenBy
+  chosen-other h = let n = neither (isGreater o) (isUnordered o) h in simp (n .0, n .1)
+
+-- a comparison, and then what follows, is rule 7 and then what follows
+compare-then : {B : Type 0} (next : Order → Outcome B) (a b : Value) → andThen (compareOf a b) next ≡ refuseIf (kindsDiffer a b) 7 0 (next (valueOrder a b))
+unfolding compareOf
+compare-then next a b = go (kindsDiffer a b)
+  where
+    go : (t : Bool) → andThen (refuseIf t 7 0 (gives (valueOrder a b))) next ≡ refuseIf t 7 0 (next (valueOrder a b))
+    go true = refl
+    go false = refl
+
+pub min-chosen : (a b : Value) → andThen (compareOf a b) (chosenBy a b) ≡ minOf a b
+unfolding minOf
+min-chosen a b = compare-then (chosenBy a b) a b
+
+pub max-chosen : (a b : Value) → andThen (compareOf a b) (chosenBy b a) ≡ maxOf a b
+unfolding maxOf
+max-chosen a b = compare-then (chosenBy b a) a b
+
+-- ---- the clamp
+
+module _ {A : Type 0} (x lower upper : A) (bounds low high : Order) where
+  pub clamped-bounds : not (isLessOrEqual bounds) ≡ true → refuses 6 0 ≡ clampedBy bounds low high x lower upper
+  unfolding clampedBy
+  clamped-bounds h = simp h
+
+  module _ (b : isLessOrEqual bounds ≡ true) where
+    pub clamped-nan : isUnordered low ≡ true → refuses 8 0 ≡ clampedBy bounds low high x lower upper
+    unfolding clampedBy
+    clamped-nan q = simp (b, q)
+
+    module _ (n : isUnordered low ≡ false) where
+      pub clamped-lower : isLess low ≡ true → gives lower ≡ clampedBy bounds low high x lower upper
+      unfolding clampedBy
+      clamped-lower q = simp (b, n, q)
+
+      module _ (l : isLess low ≡ false) where
+        pub clamped-upper : isGreater high ≡ true → gives upper ≡ clampedBy bounds low high x lower upper
+        unfolding clampedBy
+        clamped-upper q = simp (b, n, l, q)
+
+        pub clamped-self : isGreater high ≡ false → gives x ≡ clampedBy bounds low high x lower upper
+        unfolding clampedBy
+        clamped-self q = simp (b, n, l, q)
+
+-- by the three comparisons
+given-kinds : (a b : Value) {o : Order} → gives o ≡ compareOf a b → (kindsDiffer a b ≡ false) × (o ≡ valueOrder a b)
+unfolding compareOf
+given-kinds a b {o} h = go (kindsDiffer a b) refl h
+  where
+    go : (t : Bool) → kindsDiffer a b ≡ t → gives o ≡ refuseIf t 7 0 (gives (valueOrder a b)) → (kindsDiffer a b ≡ false) × (o ≡ valueOrder a b)
+    go true e q = absurd (let z : _≡_ {A = ℕ} 0 1 = cc in omega arith)
+    go false e q = (e, cc)
+
+refused-kinds : (a b : Value) (f : Refusal) → refusalOf f ≡ compareOf a b → (kindsDiffer a b ≡ true) × (f .number ≡ 7) × (f .place ≡ 0)
+unfolding compareOf
+refused-kinds a b f h = go (kindsDiffer a b) refl h
+  where
+    go : (t : Bool) → kindsDiffer a b ≡ t → refusalOf f ≡ refuseIf t 7 0 (gives (valueOrder a b)) → (kindsDiffer a b ≡ true) × (f .number ≡ 7) × (f .place ≡ 0)
+    go true e q = (e, cc, cc)
+    go false e q = absurd (let z : _≡_ {A = ℕ} 0 1 = cc in omega arith)
+
+same-kinds : (v a b : Value) → kindsDiffer v a ≡ false → kindsDiffer v b ≡ false → kindsDiffer a b ≡ false
+same-kinds v a b h k = ap not (eq-eqb _ _ (sym (one-kind v a h) ∙ one-kind v b k))
+
+module _ (v lower upper : Value) where
+  pub clamp-refused-lower : (f : Refusal) → refusalOf f ≡ compareOf v lower → refusalOf f ≡ clampOf v lower upper
+  unfolding clampOf
+  clamp-refused-lower f h = let k = refused-kinds v lower f h in simp (k .0, k .1, k .2)
+
+  module _ {low : Order} (l : gives low ≡ compareOf v lower) where
+    pub clamp-refused-upper : (f : Refusal) → refusalOf f ≡ compareOf v upper → refusalOf f ≡ clampOf v lower upper
+    unfolding clampOf
+    clamp-refused-upper f h = let k = refused-kinds v upper f h in simp (given-kinds v lower l .0, k .0, k .1, k .2)
+
+    module _ {high : Order} (u : gives high ≡ compareOf v upper) where
+      pub clamp-never : (f : Refusal) → refusalOf f ≡ compareOf lower upper → refusalOf f ≡ clampOf v lower upper
+      clamp-never f h = absurd (true≢false (sym (refused-kinds lower upper f h .0) ∙ same-kinds v lower upper (given-kinds v lower l .0) (given-kinds v upper u .0)))
+
+      pub clamp-clamped : {bounds : Order} {r : Outcome Value} → gives bounds ≡ compareOf lower upper → r ≡ clampedBy bounds low high v lower upper → r ≡ clampOf v lower upper
+      unfolding clampOf
+      clamp-clamped w h =
+          let p = given-kinds v lower l in
+          let q = given-kinds v upper u in
+          simp (p .0, q .0) (h ∙ cc (p .1, q .1, given-kinds lower upper w .1))
