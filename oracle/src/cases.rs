@@ -1,6 +1,9 @@
 //! Random case lines: edges and random patterns mixed, with malformed lines
 //! between them.
 
+pub mod choice;
+pub mod row;
+
 use crate::edges;
 use crate::lines::LINE_KINDS;
 use crate::malformed;
@@ -86,8 +89,28 @@ pub fn partner(random: &mut Random, first: Value) -> Value {
     }
 }
 
+/// A value that is no NaN.
+pub fn number(random: &mut Random, kind: Kind) -> Value {
+    loop {
+        let value = value(random, kind);
+        if !edges::is_nan(value) {
+            return value;
+        }
+    }
+}
+
+/// A number of the same kind, often equal or close.
+pub fn near(random: &mut Random, number: Value) -> Value {
+    loop {
+        let second = partner(random, number);
+        if second.kind == number.kind && !edges::is_nan(second) {
+            return second;
+        }
+    }
+}
+
 /// Half of the time the same bits under the other kind's name.
-fn of_another_kind(random: &mut Random, first: Value) -> Value {
+pub fn of_another_kind(random: &mut Random, first: Value) -> Value {
     let mut kind = any_kind(random);
     while kind == first.kind {
         kind = any_kind(random);
@@ -148,12 +171,34 @@ mod tests {
     }
 
     #[test]
-    fn lines_are_short_or_malformed() {
+    fn long_lines_are_rows_or_malformed() {
+        let mut long_rows = 0;
         for line in Cases::new(6).take(50_000) {
-            let long = line.len() > 200;
             assert!(!line.contains(&b'\n'));
-            assert!(!long || line.len() >= 1000 && lines::answer(&line) == lines::MALFORMED);
+            if line.len() > 200 {
+                assert!(line.len() < 8000);
+                let malformed = lines::answer(&line) == lines::MALFORMED;
+                assert!(line.starts_with(b"rowclamp ") || malformed && line.len() >= 1000);
+                long_rows += usize::from(!malformed);
+            }
         }
+        assert!((150..350).contains(&long_rows), "{long_rows}");
+    }
+
+    #[test]
+    fn line_kinds_are_alike_in_number() {
+        let mut counts = [0; LINE_KINDS.len()];
+        for line in Cases::new(7).take(50_000) {
+            if let Some(place) = lines::judged(&line).line_kind {
+                counts[place] += 1;
+            }
+        }
+        let each = 48_000 / counts.len();
+        let near = each * 9 / 10..each * 11 / 10;
+        assert!(
+            counts.iter().all(|count| near.contains(count)),
+            "{counts:?}"
+        );
     }
 
     #[test]
@@ -170,7 +215,10 @@ mod tests {
             "Unordered",
             "yes",
             "no",
+            "refused 6 0",
             "refused 7 0",
+            "refused 8 0",
+            "-",
             "malformed",
         ];
         let answers: Vec<String> = Cases::new(8)

@@ -110,8 +110,10 @@ impl Tally {
         if self.differ > SHOWN_DIFFERENCES {
             return Ok(());
         }
-        let got = got.map_or("(no line)".to_string(), |got| shown(&got));
-        writeln!(out, "{} / {answer} / {got}", shown(case))
+        let wanted = answer.as_bytes();
+        let from = got.as_ref().map_or(0, |got| differ_from(wanted, got));
+        let got = got.map_or("(no line)".to_string(), |got| shown(&got, from));
+        writeln!(out, "{} / {} / {got}", shown(case, 0), shown(wanted, from))
     }
 
     fn report(&self, count: usize, out: &mut impl Write) -> io::Result<()> {
@@ -123,14 +125,25 @@ impl Tally {
     }
 }
 
-/// Bytes that don't print stand escaped, and a long line is cut.
-fn shown(line: &[u8]) -> String {
+/// The place of the first byte that differs.
+fn differ_from(wanted: &[u8], got: &[u8]) -> usize {
+    let pairs = wanted.iter().zip(got);
+    pairs.take_while(|(wanted, got)| wanted == got).count()
+}
+
+/// Bytes that don't print stand escaped, and a long line is cut so that the
+/// byte at a place is seen.
+fn shown(line: &[u8], place: usize) -> String {
     if line.len() <= SHOWN_BYTES {
         return line.escape_ascii().to_string();
     }
+    let first = place.saturating_sub(SHOWN_BYTES / 2);
+    let last = line.len().min(first + SHOWN_BYTES);
     format!(
-        "{}... ({} bytes)",
-        line[..SHOWN_BYTES].escape_ascii(),
+        "{}{}{} ({} bytes)",
+        if first > 0 { "..." } else { "" },
+        line[first..last].escape_ascii(),
+        if last < line.len() { "..." } else { "" },
         line.len()
     )
 }
@@ -166,5 +179,20 @@ mod tests {
         assert_eq!((tally.differ, tally.missing, tally.malformed), (2, 1, 1));
         let text = "class f32:00000000 / zero / zero\\r\n / malformed / (no line)\n";
         assert_eq!(String::from_utf8(out).unwrap(), text);
+    }
+
+    #[test]
+    fn a_long_line_is_cut_where_it_differs() {
+        let wanted = [b'a'; 500];
+        let mut got = wanted;
+        assert_eq!(differ_from(&wanted, &got[..300]), 300);
+        got[450] = b'b';
+        let from = differ_from(&wanted, &got);
+        assert_eq!(from, 450);
+        let (a, b) = (|count| "a".repeat(count), "b");
+        let text = format!("...{}{b}{} (500 bytes)", a(100), a(49));
+        assert_eq!(shown(&got, from), text);
+        assert_eq!(shown(&wanted, 0), format!("{}... (500 bytes)", a(200)));
+        assert_eq!(shown(&wanted[..200], 150), a(200));
     }
 }

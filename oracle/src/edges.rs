@@ -113,6 +113,55 @@ pub fn edges(kind: Kind) -> &'static [u64] {
     }
 }
 
+/// The bits of plus infinity; float kinds alone have them.
+pub fn infinity(kind: Kind) -> u64 {
+    match kind {
+        Kind::F32 => 0x7f80_0000,
+        _ => 0x7ff0_0000_0000_0000,
+    }
+}
+
+/// The bits of 1; float kinds alone have them.
+pub fn one(kind: Kind) -> u64 {
+    match kind {
+        Kind::F32 => 0x3f80_0000,
+        _ => 0x3ff0_0000_0000_0000,
+    }
+}
+
+/// A few numbers, in order: the infinities, the ones, the least magnitudes and
+/// the zeros. Of an integer kind with a sign: either end and around zero.
+pub fn few(kind: Kind) -> [u64; 8] {
+    let (top, mask) = (kind.top(), kind.mask());
+    if !kind.is_float() {
+        return [top, top + 1, mask - 1, mask, 0, 1, top - 2, top - 1];
+    }
+    let (one, infinity) = (one(kind), infinity(kind));
+    [top | infinity, top | one, top | 1, top, 0, 1, one, infinity]
+}
+
+pub fn is_nan(value: Value) -> bool {
+    let Value { kind, bits } = value;
+    kind.is_float() && bits & !kind.top() > infinity(kind)
+}
+
+/// A NaN of either sign, half of the time an edge.
+pub fn nan(random: &mut Random, kind: Kind) -> Value {
+    let sign = random.pick(&[0, kind.top()]);
+    let value = if random.one_in(2) {
+        let edges = edges(kind);
+        let first = edges.partition_point(|&edge| edge <= infinity(kind));
+        Value::new(kind, sign | random.pick(&edges[first..]))
+    } else {
+        Value::new(kind, sign | infinity(kind) | random.next())
+    };
+    if is_nan(value) {
+        value
+    } else {
+        Value::new(kind, value.bits | 1)
+    }
+}
+
 /// The edges that matter most, drawn more often than the others.
 fn main_edges(kind: Kind) -> [u64; 3] {
     match kind {
@@ -187,6 +236,14 @@ mod tests {
         for number in all {
             assert!(F64.contains(&number.to_bits()), "{number}");
         }
+    }
+
+    #[test]
+    fn infinities_and_ones() {
+        assert_eq!(infinity(Kind::F32), u64::from(f32::INFINITY.to_bits()));
+        assert_eq!(infinity(Kind::F64), f64::INFINITY.to_bits());
+        assert_eq!(one(Kind::F32), u64::from(1f32.to_bits()));
+        assert_eq!(one(Kind::F64), 1f64.to_bits());
     }
 
     #[test]

@@ -1,5 +1,8 @@
 //! The fixed list of case lines: the same at every run.
 
+mod choice;
+mod row;
+
 use crate::cases;
 use crate::edges;
 use crate::random::Random;
@@ -7,8 +10,8 @@ use crate::value::{Kind, Value};
 
 const TESTS: [&str; 6] = ["eq", "ne", "lt", "le", "gt", "ge"];
 
-/// Cases 1 to 4 of the marked ones, for f32 and then alike for f64.
-const MARKED: [&str; 22] = [
+/// Cases 1 to 4 and 11 of the marked ones, for f32 and then alike for f64.
+const MARKED: [&str; 25] = [
     "compare f32:00000000 f32:80000000",
     "total f32:00000000 f32:80000000",
     "total f32:80000000 f32:00000000",
@@ -20,6 +23,8 @@ const MARKED: [&str; 22] = [
     "class f32:007fffff",
     "class f32:00800000",
     "compare f32:007fffff f32:00800000",
+    "clamp f32:80000000 f32:00000000 f32:3f800000",
+    "rowclamp 00000000 3f800000 80000000",
     "compare f64:0000000000000000 f64:8000000000000000",
     "total f64:0000000000000000 f64:8000000000000000",
     "total f64:8000000000000000 f64:0000000000000000",
@@ -31,6 +36,7 @@ const MARKED: [&str; 22] = [
     "class f64:000fffffffffffff",
     "class f64:0010000000000000",
     "compare f64:000fffffffffffff f64:0010000000000000",
+    "clamp f64:8000000000000000 f64:0000000000000000 f64:3ff0000000000000",
 ];
 
 /// Malformed lines, of plain ASCII.
@@ -106,10 +112,19 @@ pub fn lines() -> Vec<String> {
         integer_pairs(kind, &mut lines);
     }
     kinds_that_differ(&mut lines);
-    lines.extend(MALFORMED.map(String::from));
+    choice::push(&mut lines);
+    row::push(&mut lines);
+    lines.extend(malformed().map(String::from));
     let mut random = Random::new(754);
     lines.extend((0..120).map(|_| cases::well_formed(&mut random)));
     lines
+}
+
+fn malformed() -> impl Iterator<Item = &'static str> {
+    MALFORMED
+        .into_iter()
+        .chain(choice::MALFORMED)
+        .chain(row::MALFORMED)
 }
 
 fn push_pair(lines: &mut Vec<String>, word: &str, first: Value, second: Value) {
@@ -127,10 +142,7 @@ fn classes(kind: Kind, lines: &mut Vec<String>) {
 
 /// All pairs of a few edges, in the order of their positions.
 fn float_pairs(kind: Kind, lines: &mut Vec<String>) {
-    let (one, infinity) = match kind {
-        Kind::F32 => (0x3f80_0000, 0x7f80_0000),
-        _ => (0x3ff0_0000_0000_0000, 0x7ff0_0000_0000_0000),
-    };
+    let (one, infinity) = (edges::one(kind), edges::infinity(kind));
     let sign = kind.top();
     let quiet = kind.mask() >> 1;
     let edges = [
@@ -231,7 +243,9 @@ mod tests {
     #[test]
     fn length_and_text() {
         let lines = lines();
-        assert!((600..=1500).contains(&lines.len()), "{}", lines.len());
+        assert!((1000..=3000).contains(&lines.len()), "{}", lines.len());
+        let bytes: usize = lines.iter().map(|line| line.len() + 1).sum();
+        assert!(bytes < 400_000, "{bytes}");
         assert!(lines
             .iter()
             .all(|line| line.is_ascii() && !line.contains('\n')));
@@ -241,7 +255,8 @@ mod tests {
     fn only_the_malformed_are_malformed() {
         for line in lines() {
             let malformed = grammar::answer(line.as_bytes()) == grammar::MALFORMED;
-            assert_eq!(malformed, MALFORMED.contains(&line.as_str()), "{line:?}");
+            let listed = super::malformed().any(|listed| listed == line);
+            assert_eq!(malformed, listed, "{line:?}");
         }
     }
 }

@@ -2,42 +2,45 @@
 //! A judge is given the operands of a line and answers nothing for a line
 //! that isn't of the grammar.
 
+pub mod choice;
+
 use std::cmp::Ordering;
 use std::num::FpCategory;
 
 use crate::value::{Kind, Value};
 
-/// Gives `x` and `y` the values of two operands of one kind, as the Rust type
-/// of that kind, and works out an expression over them.
+/// Gives names to the values of operands of one kind, as the Rust type of that
+/// kind, and works out an expression over them.
 macro_rules! decoded {
-    ($a:expr, $b:expr, |$x:ident, $y:ident| $body:expr) => {
-        decoded!($a, $b, |$x, $y| integers: $body, floats: $body)
+    ($kind:expr, |$($x:ident = $a:ident),+| $body:expr) => {
+        decoded!($kind, |$($x = $a),+| integers: $body, floats: $body)
     };
-    ($a:expr, $b:expr, |$x:ident, $y:ident| integers: $integers:expr, floats: $floats:expr) => {
-        match $a.kind {
-            Kind::U8 => decoded!(as u8, $a, $b, $x, $y, $integers),
-            Kind::U16 => decoded!(as u16, $a, $b, $x, $y, $integers),
-            Kind::U32 => decoded!(as u32, $a, $b, $x, $y, $integers),
-            Kind::U64 => decoded!(as u64, $a, $b, $x, $y, $integers),
-            Kind::I8 => decoded!(as i8, $a, $b, $x, $y, $integers),
-            Kind::I16 => decoded!(as i16, $a, $b, $x, $y, $integers),
-            Kind::I32 => decoded!(as i32, $a, $b, $x, $y, $integers),
-            Kind::I64 => decoded!(as i64, $a, $b, $x, $y, $integers),
+    ($kind:expr, |$($x:ident = $a:ident),+| integers: $integers:expr, floats: $floats:expr) => {
+        match $kind {
+            Kind::U8 => decoded!(as u8, $($x = $a),+; $integers),
+            Kind::U16 => decoded!(as u16, $($x = $a),+; $integers),
+            Kind::U32 => decoded!(as u32, $($x = $a),+; $integers),
+            Kind::U64 => decoded!(as u64, $($x = $a),+; $integers),
+            Kind::I8 => decoded!(as i8, $($x = $a),+; $integers),
+            Kind::I16 => decoded!(as i16, $($x = $a),+; $integers),
+            Kind::I32 => decoded!(as i32, $($x = $a),+; $integers),
+            Kind::I64 => decoded!(as i64, $($x = $a),+; $integers),
             Kind::F32 => {
-                let ($x, $y) = (f32::from_bits($a.bits as u32), f32::from_bits($b.bits as u32));
+                $(let $x = f32::from_bits($a.bits as u32);)+
                 $floats
             }
             Kind::F64 => {
-                let ($x, $y) = (f64::from_bits($a.bits), f64::from_bits($b.bits));
+                $(let $x = f64::from_bits($a.bits);)+
                 $floats
             }
         }
     };
-    (as $type:ty, $a:expr, $b:expr, $x:ident, $y:ident, $body:expr) => {{
-        let ($x, $y) = ($a.bits as $type, $b.bits as $type);
+    (as $type:ty, $($x:ident = $a:ident),+; $body:expr) => {{
+        $(let $x = $a.bits as $type;)+
         $body
     }};
 }
+use decoded;
 
 pub fn class(operands: &[&[u8]]) -> Option<String> {
     let &[operand] = operands else { return None };
@@ -58,44 +61,54 @@ pub fn class(operands: &[&[u8]]) -> Option<String> {
 }
 
 pub fn compare(operands: &[&[u8]]) -> Option<String> {
-    of_pair(operands, |a, b| {
-        order(decoded!(a, b, |x, y| x.partial_cmp(&y)))
-    })
+    of_pair(operands, |a, b| order(ordering(a, b)))
 }
 
 pub fn total(operands: &[&[u8]]) -> Option<String> {
     of_pair(operands, |a, b| {
-        let found = decoded!(a, b, |x, y| integers: x.cmp(&y), floats: x.total_cmp(&y));
+        let found = decoded!(a.kind, |x = a, y = b| integers: x.cmp(&y), floats: x.total_cmp(&y));
         order(Some(found))
     })
 }
 
 pub fn eq(operands: &[&[u8]]) -> Option<String> {
-    of_pair(operands, |a, b| yes_no(decoded!(a, b, |x, y| x == y)))
+    of_pair(operands, |a, b| {
+        yes_no(decoded!(a.kind, |x = a, y = b| x == y))
+    })
 }
 
 pub fn ne(operands: &[&[u8]]) -> Option<String> {
-    of_pair(operands, |a, b| yes_no(decoded!(a, b, |x, y| x != y)))
+    of_pair(operands, |a, b| {
+        yes_no(decoded!(a.kind, |x = a, y = b| x != y))
+    })
 }
 
 pub fn lt(operands: &[&[u8]]) -> Option<String> {
-    of_pair(operands, |a, b| yes_no(decoded!(a, b, |x, y| x < y)))
+    of_pair(operands, |a, b| {
+        yes_no(decoded!(a.kind, |x = a, y = b| x < y))
+    })
 }
 
 pub fn le(operands: &[&[u8]]) -> Option<String> {
-    of_pair(operands, |a, b| yes_no(decoded!(a, b, |x, y| x <= y)))
+    of_pair(operands, |a, b| {
+        yes_no(decoded!(a.kind, |x = a, y = b| x <= y))
+    })
 }
 
 pub fn gt(operands: &[&[u8]]) -> Option<String> {
-    of_pair(operands, |a, b| yes_no(decoded!(a, b, |x, y| x > y)))
+    of_pair(operands, |a, b| {
+        yes_no(decoded!(a.kind, |x = a, y = b| x > y))
+    })
 }
 
 pub fn ge(operands: &[&[u8]]) -> Option<String> {
-    of_pair(operands, |a, b| yes_no(decoded!(a, b, |x, y| x >= y)))
+    of_pair(operands, |a, b| {
+        yes_no(decoded!(a.kind, |x = a, y = b| x >= y))
+    })
 }
 
 /// Two values of one kind; refusal 7 when their kinds differ.
-fn of_pair(operands: &[&[u8]], answer: fn(Value, Value) -> String) -> Option<String> {
+fn of_pair(operands: &[&[u8]], answer: impl Fn(Value, Value) -> String) -> Option<String> {
     let &[first, second] = operands else {
         return None;
     };
@@ -104,6 +117,11 @@ fn of_pair(operands: &[&[u8]], answer: fn(Value, Value) -> String) -> Option<Str
         return Some(refused(7, 0));
     }
     Some(answer(a, b))
+}
+
+/// Comparison of two values of one kind; nothing for Unordered.
+pub fn ordering(a: Value, b: Value) -> Option<Ordering> {
+    decoded!(a.kind, |x = a, y = b| x.partial_cmp(&y))
 }
 
 fn refused(number: u32, place: usize) -> String {

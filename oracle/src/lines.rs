@@ -15,7 +15,7 @@ pub struct LineKind {
     pub judge: Judge,
 }
 
-pub const LINE_KINDS: [LineKind; 9] = [
+pub const LINE_KINDS: [LineKind; 13] = [
     line_kind("class", cases::one_float, judge::class),
     line_kind("compare", cases::pair, judge::compare),
     line_kind("total", cases::pair, judge::total),
@@ -25,6 +25,10 @@ pub const LINE_KINDS: [LineKind; 9] = [
     line_kind("le", cases::pair, judge::le),
     line_kind("gt", cases::pair, judge::gt),
     line_kind("ge", cases::pair, judge::ge),
+    line_kind("min", cases::choice::pair, judge::choice::min),
+    line_kind("max", cases::choice::pair, judge::choice::max),
+    line_kind("clamp", cases::choice::clamp, judge::choice::clamp),
+    line_kind("rowclamp", cases::row::rowclamp, judge::choice::rowclamp),
 ];
 
 const fn line_kind(word: &'static str, make: Make, judge: Judge) -> LineKind {

@@ -1,28 +1,34 @@
 //! Lines that aren't of the grammar: each a case line spoiled in one way.
 
+mod row;
+mod value;
+
 use crate::cases;
 use crate::odd;
 use crate::random::Random;
-use crate::value::{Kind, Value};
 
-const WORDS: [&str; 8] = ["compare", "total", "eq", "ne", "lt", "le", "gt", "ge"];
-
-const WAYS: [fn(&mut Random) -> Vec<u8>; 15] = [
+const WAYS: [fn(&mut Random) -> Vec<u8>; 21] = [
     unknown_word,
-    unknown_kind,
+    value::unknown_kind,
     operand_count,
-    digit_count,
-    upper_case_digit,
-    foreign_digit,
-    odd_operand,
+    value::digit_count,
+    value::upper_case_digit,
+    value::foreign_digit,
+    value::odd_operand,
     odd_parting,
     odd_start,
     odd_end,
-    class_of_integer,
+    value::class_of_integer,
+    word_of_another,
     cut_short,
     out_of_order,
     blank,
     noise,
+    row::odd_count,
+    row::odd_bound,
+    row::odd_sample,
+    row::odd_joint,
+    row::odd_row,
 ];
 
 /// At most 200 bytes.
@@ -32,6 +38,9 @@ pub fn short(random: &mut Random) -> Vec<u8> {
 
 /// Some thousand bytes.
 pub fn long(random: &mut Random) -> Vec<u8> {
+    if random.one_in(3) {
+        return row::long(random);
+    }
     let count = 2000 + random.below(4000);
     let mut fields = fields(random);
     match random.below(6) {
@@ -45,13 +54,15 @@ pub fn long(random: &mut Random) -> Vec<u8> {
     joined(&fields)
 }
 
-/// The fields of a case line that is well formed.
+/// The fields of a case line that is well formed, its row no longer than 7.
 fn fields(random: &mut Random) -> Vec<Vec<u8>> {
-    let line = if random.one_in(4) {
-        format!("class {}", cases::one_float(random))
-    } else {
-        format!("{} {}", random.pick(&WORDS), cases::pair(random))
-    };
+    if random.one_in(6) {
+        return row::fields(random);
+    }
+    value::fields(random)
+}
+
+fn split(line: &str) -> Vec<Vec<u8>> {
     line.split(' ')
         .map(|field| field.as_bytes().to_vec())
         .collect()
@@ -59,15 +70,6 @@ fn fields(random: &mut Random) -> Vec<Vec<u8>> {
 
 fn joined(fields: &[Vec<u8>]) -> Vec<u8> {
     fields.join(&b' ')
-}
-
-/// A case line in which one operand is changed.
-fn with_operand(random: &mut Random, change: fn(&mut Random, Value) -> Vec<u8>) -> Vec<u8> {
-    let mut fields = fields(random);
-    let place = 1 + random.below(fields.len() - 1);
-    let value = Value::parse(&fields[place]).expect("a value of our own making");
-    fields[place] = change(random, value);
-    joined(&fields)
 }
 
 fn unknown_word(random: &mut Random) -> Vec<u8> {
@@ -83,18 +85,6 @@ fn unknown_word(random: &mut Random) -> Vec<u8> {
     joined(&fields)
 }
 
-fn unknown_kind(random: &mut Random) -> Vec<u8> {
-    with_operand(random, |random, value| {
-        let text = value.to_string();
-        let (kind, digits) = text.split_once(':').expect("a colon");
-        let kind = match random.below(4) {
-            0 => kind.to_ascii_uppercase(),
-            _ => random.pick(&odd::KINDS).to_string(),
-        };
-        format!("{kind}:{digits}").into_bytes()
-    })
-}
-
 fn operand_count(random: &mut Random) -> Vec<u8> {
     let mut fields = fields(random);
     match random.below(4) {
@@ -107,48 +97,6 @@ fn operand_count(random: &mut Random) -> Vec<u8> {
         }
     }
     joined(&fields)
-}
-
-fn digit_count(random: &mut Random) -> Vec<u8> {
-    with_operand(random, |random, value| {
-        let mut text = value.to_string().into_bytes();
-        let first = text.len() - value.kind.digits();
-        match random.below(6) {
-            0 => text.truncate(text.len() - 1),
-            1 => text.truncate(first),
-            2 => text.push(b'0'),
-            3 => text.insert(first, b'0'),
-            4 => text.extend_from_within(first..),
-            _ => text.truncate(first + value.kind.digits() / 2),
-        }
-        text
-    })
-}
-
-fn upper_case_digit(random: &mut Random) -> Vec<u8> {
-    with_operand(random, |random, value| with_digit(random, value, b"ABCDEF"))
-}
-
-/// Among the foreign digits are the neighbours of the digits by byte.
-fn foreign_digit(random: &mut Random) -> Vec<u8> {
-    with_operand(random, |random, value| {
-        with_digit(random, value, b"/:@G`gxXzOl-+_., \x00\x7f\x80\xff")
-    })
-}
-
-fn with_digit(random: &mut Random, value: Value, digits: &[u8]) -> Vec<u8> {
-    let mut text = value.to_string().into_bytes();
-    let place = text.len() - 1 - random.below(value.kind.digits());
-    text[place] = random.pick(digits);
-    text
-}
-
-fn odd_operand(random: &mut Random) -> Vec<u8> {
-    with_operand(random, |random, value| match random.below(4) {
-        0 => format!("{value},{value}").into_bytes(),
-        1 => value.to_string().replace(':', "").into_bytes(),
-        _ => random.pick(&odd::OPERANDS).as_bytes().to_vec(),
-    })
 }
 
 fn odd_parting(random: &mut Random) -> Vec<u8> {
@@ -177,13 +125,27 @@ fn odd_end(random: &mut Random) -> Vec<u8> {
     [&line, random.pick(&odd::ENDS).as_bytes()].concat()
 }
 
-fn class_of_integer(random: &mut Random) -> Vec<u8> {
-    let kind = random.pick(&Kind::INTEGERS);
-    format!("class {}", cases::value(random, kind)).into_bytes()
+/// A row's operands are no values, and the other words part by their count.
+fn word_of_another(random: &mut Random) -> Vec<u8> {
+    let mut fields = fields(random);
+    let words = [
+        "class",
+        random.pick(&value::PAIR_WORDS),
+        "clamp",
+        "rowclamp",
+    ];
+    let own = match fields[0].as_slice() {
+        b"rowclamp" => 3,
+        _ => fields.len() - 2,
+    };
+    let other = (own + 1 + random.below(3)) % 4;
+    fields[0] = words[other].as_bytes().to_vec();
+    joined(&fields)
 }
 
+/// No row: it could end after one of its samples.
 fn cut_short(random: &mut Random) -> Vec<u8> {
-    let mut line = joined(&fields(random));
+    let mut line = joined(&value::fields(random));
     line.truncate(random.below(line.len()));
     line
 }

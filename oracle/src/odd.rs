@@ -2,7 +2,7 @@
 //! become the word of a line kind.
 
 /// In the place of the word.
-pub const WORDS: [&str; 18] = [
+pub const WORDS: [&str; 22] = [
     "",
     "-",
     "#",
@@ -15,6 +15,10 @@ pub const WORDS: [&str; 18] = [
     "classify",
     "total_cmp",
     "tot",
+    "minimum",
+    "minmax",
+    "clamped",
+    "row_clamp",
     "yes",
     "Less",
     "malformed",
@@ -75,4 +79,37 @@ pub const STARTS: [&str; 9] = [" ", "  ", "\t", "\r", "\0", "-", "#", "> ", "\u{
 pub const ENDS: [&str; 16] = [
     " ", "  ", "\t", "\r", " \r", "\0", ".", ",", ";", " -", " #", "\u{b}", "\u{c}", "\u{85}",
     "\u{a0}", "\u{2028}",
+];
+
+/// In the place of the digits of an f32.
+pub const DIGITS: [&str; 19] = [
+    "",
+    "-",
+    "0",
+    "1.5",
+    "nan",
+    "inf",
+    "f32",
+    "f32:",
+    "f32:3f800000",
+    ":3f800000",
+    "0x3f800000",
+    "0x3f8000",
+    "+3f80000",
+    "-3f80000",
+    "3ff0000000000000",
+    "3f80",
+    "3f800000.",
+    "\t3f800000",
+    "3f80000\0",
+];
+
+/// In the place of a comma between samples.
+pub const JOINTS: [&str; 12] = [
+    "", ",,", ", ", " ,", " ", ", ,", ";", ":", ".", "-", ",-,", "\t",
+];
+
+/// In the place of a row.
+pub const ROWS: [&str; 12] = [
+    "", ",", ",,", "--", "-,", ",-", "-,-", "- -", "[]", "()", "0", "none",
 ];

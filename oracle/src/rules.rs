@@ -1,5 +1,5 @@
 //! The rules in whole numbers, for the tests alone: class, scaled number,
-//! comparison and total order, without any float.
+//! comparison, total order, choosing and clamping, without any float.
 
 use std::cmp::Ordering;
 
@@ -7,6 +7,9 @@ use crate::value::{Kind, Value};
 
 /// Low limb first. The greatest scaled number, of f64, is below 2^2098.
 type Whole = [u64; 33];
+
+/// The number of a refusal, and its place.
+pub type Refused = (u32, usize);
 
 pub fn abs(value: Value) -> u64 {
     value.bits - if negative(value) { value.kind.top() } else { 0 }
@@ -97,6 +100,58 @@ fn compare_scaled(a: Value, b: Value) -> Ordering {
         (true, true) => y.iter().rev().cmp(x.iter().rev()),
         (false, true) => Ordering::Greater,
         (true, false) => Ordering::Less,
+    }
+}
+
+pub fn min(a: Value, b: Value) -> Result<Value, Refused> {
+    Ok(match order(a, b)? {
+        Ordering::Less | Ordering::Equal => a,
+        Ordering::Greater => b,
+    })
+}
+
+pub fn max(a: Value, b: Value) -> Result<Value, Refused> {
+    Ok(match order(a, b)? {
+        Ordering::Less | Ordering::Equal => b,
+        Ordering::Greater => a,
+    })
+}
+
+fn order(a: Value, b: Value) -> Result<Ordering, Refused> {
+    if a.kind != b.kind {
+        return Err((7, 0));
+    }
+    compare(a, b).ok_or((8, 0))
+}
+
+pub fn clamp(value: Value, lower: Value, upper: Value) -> Result<Value, Refused> {
+    if value.kind != lower.kind || value.kind != upper.kind || lower.kind != upper.kind {
+        return Err((7, 0));
+    }
+    check_bounds(lower, upper)?;
+    if order(value, lower)? == Ordering::Less {
+        return Ok(lower);
+    }
+    if order(value, upper)? == Ordering::Greater {
+        return Ok(upper);
+    }
+    Ok(value)
+}
+
+/// All of a row, or the refusal of its first sample that is refused.
+pub fn clamp_row(row: &[Value], lower: Value, upper: Value) -> Result<Vec<Value>, Refused> {
+    check_bounds(lower, upper)?;
+    let mut clamped = Vec::new();
+    for (place, &sample) in row.iter().enumerate() {
+        clamped.push(clamp(sample, lower, upper).map_err(|(number, _)| (number, place))?);
+    }
+    Ok(clamped)
+}
+
+fn check_bounds(lower: Value, upper: Value) -> Result<(), Refused> {
+    match compare(lower, upper) {
+        Some(Ordering::Less | Ordering::Equal) => Ok(()),
+        Some(Ordering::Greater) | None => Err((6, 0)),
     }
 }
 

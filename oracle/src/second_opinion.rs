@@ -1,5 +1,7 @@
 //! Rust's bodies, by way of the judges, against the rules in whole numbers.
 
+mod choice;
+
 use std::cmp::Ordering;
 
 use crate::cases;

@@ -111,7 +111,11 @@ impl Value {
     pub fn parse(text: &[u8]) -> Option<Value> {
         let colon = text.iter().position(|&byte| byte == b':')?;
         let kind = Kind::parse(&text[..colon])?;
-        let digits = &text[colon + 1..];
+        Value::of_digits(kind, &text[colon + 1..])
+    }
+
+    /// A value of a known kind, written as its digits alone.
+    pub fn of_digits(kind: Kind, digits: &[u8]) -> Option<Value> {
         if digits.len() != kind.digits() {
             return None;
         }
@@ -120,17 +124,33 @@ impl Value {
             bits: hex(digits)?,
         })
     }
+
+    pub fn digits(self) -> String {
+        format!("{:0width$x}", self.bits, width = self.kind.digits())
+    }
+}
+
+/// A row of samples, joined by commas; `-` is the empty row.
+pub fn parse_row(kind: Kind, text: &[u8]) -> Option<Vec<Value>> {
+    if text == b"-" {
+        return Some(Vec::new());
+    }
+    text.split(|&byte| byte == b',')
+        .map(|digits| Value::of_digits(kind, digits))
+        .collect()
+}
+
+pub fn row_text(row: &[Value]) -> String {
+    if row.is_empty() {
+        return "-".to_string();
+    }
+    let samples: Vec<String> = row.iter().map(|sample| sample.digits()).collect();
+    samples.join(",")
 }
 
 impl fmt::Display for Value {
     fn fmt(&self, out: &mut fmt::Formatter) -> fmt::Result {
-        write!(
-            out,
-            "{}:{:0width$x}",
-            self.kind.name(),
-            self.bits,
-            width = self.kind.digits()
-        )
+        write!(out, "{}:{}", self.kind.name(), self.digits())
     }
 }
 
@@ -176,5 +196,27 @@ mod tests {
             Value::new(Kind::F32, minus_zero).to_string(),
             "f32:80000000"
         );
+    }
+
+    #[test]
+    fn printed_rows_read_back() {
+        let mut random = Random::new(12);
+        for length in 0..20 {
+            let row: Vec<Value> = (0..length)
+                .map(|_| Value::new(Kind::F32, random.next()))
+                .collect();
+            let text = row_text(&row);
+            assert_eq!(parse_row(Kind::F32, text.as_bytes()), Some(row));
+        }
+    }
+
+    #[test]
+    fn rows_that_do_not_read() {
+        let texts = [
+            "", ",", "--", "-,", "00,", ",00", "00,,00", "00,-", "0", "000", "00;00",
+        ];
+        for text in texts {
+            assert_eq!(parse_row(Kind::U8, text.as_bytes()), None, "{text}");
+        }
     }
 }

@@ -61,9 +61,12 @@ same-answer : (a b : Value) (t : Bool) → kindsDiffer a b ≡ t → T (ltb (kin
 same-answer a b true e h = refl
 same-answer a b false e h = ap gives (positions-order a b h (subst (λ (n : ℕ). T (ltb n 8)) (one-kind a b e) h))
 
-pub total-integers : (j : ℕ) (js : List ℕ) (a b : Value) → OneOf (j ∷ js) (tagOf the-type a) → T (all (λ n. ltb n 8) j js) → compareOf a b ≡ totalOf a b
+pub integers-agree : (a b : Value) → T (ltb (kindNumber (kindOf a)) 8) → compareOf a b ≡ totalOf a b
 unfolding compareOf totalOf
-total-integers j js a b o t = same-answer a b (kindsDiffer a b) refl (kind-keys (λ n. ltb n 8) j js a t o)
+integers-agree a b h = same-answer a b (kindsDiffer a b) refl h
+
+pub total-integers : (j : ℕ) (js : List ℕ) (a b : Value) → OneOf (j ∷ js) (tagOf the-type a) → T (all (λ n. ltb n 8) j js) → compareOf a b ≡ totalOf a b
+total-integers j js a b o t = integers-agree a b (kind-keys (λ n. ltb n 8) j js a t o)
 
 -- ---- a test of what was compared
 

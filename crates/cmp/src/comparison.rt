@@ -13,7 +13,7 @@ use value::bits_f32;
 use value::bits_f64;
 
 // Rule 7.
-pub fn kinds_differ() -> Compared
+pub(crate) fn kinds_differ() -> Compared
     ensures { λ r. ⌜ comparedOutcome r ≡ refuses 7 0 ⌝ }
 {
     Compared::Refused(Refusal {

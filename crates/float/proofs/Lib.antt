@@ -9,3 +9,5 @@ pub mod Operators
 pub mod ClassMeaning
 pub mod Cases
 pub mod Turned
+pub mod Transitive
+pub mod Agreement

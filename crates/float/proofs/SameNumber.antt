@@ -16,13 +16,13 @@ equal-naturals m n h = elim (three-ways m n) [
   | inr (inr g) ↦ let q : _≡_ {A = ℕ} 0 1 = cc (order-greater m n g) in absurd (omega arith)
 ]
 
-equal-integers : (y z : ℤ) → orderZ y z ≡ Equal → y ≡ z
+pub equal-integers : (y z : ℤ) → orderZ y z ≡ Equal → y ≡ z
 equal-integers (pos m) (pos n) h = ap pos (equal-naturals m n h)
 equal-integers (pos m) (negsuc n) h = cc
 equal-integers (negsuc m) (pos n) h = cc
 equal-integers (negsuc m) (negsuc n) h = ap negsuc (sym (equal-naturals n m h))
 
-integer-equal : (z : ℤ) → orderZ z z ≡ Equal
+pub integer-equal : (z : ℤ) → orderZ z z ≡ Equal
 integer-equal (pos n) = order-equal n n refl
 integer-equal (negsuc n) = order-equal n n refl
 

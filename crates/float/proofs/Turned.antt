@@ -28,7 +28,7 @@ asymmetric (pos a) (negsuc b) h = sym h
 asymmetric (negsuc a) (pos b) h = refl
 asymmetric (negsuc a) (negsuc b) h = le-ltb a b (omega (arith, ltb-true b a h))
 
-turn-integers : (m n : ℤ) → orderZ n m ≡ turned (orderZ m n)
+pub turn-integers : (m n : ℤ) → orderZ n m ≡ turned (orderZ m n)
 turn-integers m n = go (ltZ m n) (ltZ n m) refl refl
   where
     go : (s t : Bool) → ltZ m n ≡ s → ltZ n m ≡ t → cond t Less (cond s Greater Equal) ≡ turned (cond s Less (cond t Greater Equal))

@@ -3,3 +3,4 @@ pub mod TwosComplement
 pub mod FloatBits
 pub mod MadeValues
 pub mod Outcomes
+pub mod Forms

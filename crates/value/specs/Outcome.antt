@@ -7,6 +7,10 @@ pub data Outcome (A : Type 0) : Type 0 where
   gives : A → Outcome A
   refuses : ℕ → ℕ → Outcome A
 
+-- the result of a call that gives nothing but its success
+pub data Success : Type 0 where
+  done : Success
+
 -- the number and the place when the rule holds, else what follows
 abbrev pub refuseIf : {A : Type 0} → Bool → ℕ → ℕ → Outcome A → Outcome A
 refuseIf true number place next = refuses number place

@@ -1,0 +1,21 @@
+-- Laws are carried along a function that keeps the comparison and eq, and a linear order gives its partial order.
+use mathlib.Core.Path.{_≡_, refl, sym, _∙_}
+use mathlib.Core.Bool.{Bool, true}
+use Rattle.float.specs.declared.Order.{Order}
+use Rattle.float.specs.declared.Order.the-variants.{Less, Equal, Greater}
+use Rattle.value.specs.Outcome.{Outcome, gives}
+use Rattle.laws_cmp.specs.Laws.{PartialOrder, LinearOrder}
+
+-- lemma_isomorphic_obeys_cmp
+module _ {A B : Type 0} (compare : A → A → Outcome Order) (eq : A → A → Outcome Bool) (f : B → A) where
+  pub carried : PartialOrder compare eq → PartialOrder (λ x y. compare (f x) (f y)) (λ x y. eq (f x) (f y))
+  carried laws = record {
+    equal-eq = λ x y. laws .equal-eq (f x) (f y);
+    eq-equal = λ x y. laws .eq-equal (f x) (f y);
+    less-greater = λ x y. laws .less-greater (f x) (f y);
+    greater-less = λ x y. laws .greater-less (f x) (f y);
+    less-trans = λ x y z. laws .less-trans (f x) (f y) (f z);
+    greater-trans = λ x y z. laws .greater-trans (f x) (f y) (f z);
+    eq-symmetric = λ x y. laws .eq-symmetric (f x) (f y);
+    eq-transitive = λ x y z. laws .eq-transitive (f x) (f y) (f z);
+  }

@@ -1,0 +1,4 @@
+pub mod Comparison
+pub mod TotalOrder
+pub mod Integers
+pub mod Carried

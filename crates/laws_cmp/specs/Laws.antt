@@ -1,0 +1,42 @@
+-- What a comparison owes. A refusal is no order: two values of different kinds meet no law, and need none.
+use Prim.Native.Nat.{ℕ}
+use mathlib.Core.Path.{_≡_}
+use mathlib.Core.Logic.{_⊎_}
+use mathlib.Core.Bool.{Bool, true}
+use lib.Dec.{T, ltb}
+use Rattle.float.specs.declared.Order.{Order}
+use Rattle.float.specs.declared.Order.the-variants.{Less, Equal, Greater}
+use Rattle.value.specs.declared.Value.{Value}
+use Rattle.value.specs.Kinds.{kindOf, kindNumber}
+use Rattle.value.specs.Outcome.{Outcome, gives}
+
+-- obeys_partial_cmp_spec_properties, with symmetry and transitivity of eq in place of obeys_eq_spec_properties
+pub record PartialOrder {A : Type 0} (compare : A → A → Outcome Order) (eq : A → A → Outcome Bool) : Type 0 where
+  pub equal-eq : (x y : A) → compare x y ≡ gives Equal → eq x y ≡ gives true
+  pub eq-equal : (x y : A) → eq x y ≡ gives true → compare x y ≡ gives Equal
+  pub less-greater : (x y : A) → compare x y ≡ gives Less → compare y x ≡ gives Greater
+  pub greater-less : (x y : A) → compare y x ≡ gives Greater → compare x y ≡ gives Less
+  pub less-trans : (x y z : A) → compare x y ≡ gives Less → compare y z ≡ gives Less → compare x z ≡ gives Less
+  pub greater-trans : (x y z : A) → compare x y ≡ gives Greater → compare y z ≡ gives Greater → compare x z ≡ gives Greater
+  pub eq-symmetric : (x y : A) → eq x y ≡ gives true → eq y x ≡ gives true
+  pub eq-transitive : (x y z : A) → eq x y ≡ gives true → eq y z ≡ gives true → eq x z ≡ gives true
+
+-- Less, Equal or Greater, and nothing else
+abbrev pub Ordered : Outcome Order → Type 0
+Ordered o = (o ≡ gives Less) ⊎ ((o ≡ gives Equal) ⊎ (o ≡ gives Greater))
+
+-- a linear order of what belongs together; Equal only for what is the same
+pub record LinearOrder {A : Type 0} (compare : A → A → Outcome Order) (together same : A → A → Type 0) : Type 0 where
+  pub ordered : (x y : A) → together x y → Ordered (compare x y)
+  pub reflexive : (x : A) → together x x → compare x x ≡ gives Equal
+  pub equal-same : (x y : A) → together x y → compare x y ≡ gives Equal → same x y
+  pub less-greater : (x y : A) → compare x y ≡ gives Less → compare y x ≡ gives Greater
+  pub greater-less : (x y : A) → compare y x ≡ gives Greater → compare x y ≡ gives Less
+  pub less-trans : (x y z : A) → compare x y ≡ gives Less → compare y z ≡ gives Less → compare x z ≡ gives Less
+
+-- two values of one kind, and two of one integer kind
+abbrev pub OneKind : Value → Value → Type 0
+OneKind x y = kindOf x ≡ kindOf y
+
+abbrev pub OneIntegerKind : Value → Value → Type 0
+OneIntegerKind x y = T (ltb (kindNumber (kindOf x)) 8) × OneKind x y

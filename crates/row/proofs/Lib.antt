@@ -1,0 +1,4 @@
+pub mod Scan
+pub mod Written
+pub mod Rows
+pub mod ClampRow

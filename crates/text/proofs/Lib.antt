@@ -1,0 +1,5 @@
+pub mod Numbers
+pub mod Places
+pub mod Sameness
+pub mod Lists
+pub mod RoundTrips

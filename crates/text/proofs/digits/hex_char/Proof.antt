@@ -1,0 +1,20 @@
+-- The test picks the case of `charOf`.
+use borrow.Author.Needs.{needs}
+use borrow.Author.Tests.{lt-ltb, le-ltb}
+use Rattle.text.proofs.digits.hex_char.Statement.{statement}
+use Rattle.text.proofs.digits.hex_char.Tie as tie
+
+add-result : tie.Need-add-result
+add-result c = search needs
+
+add-result-2 : tie.Need-add-result-2
+add-result-2 c = search needs
+
+returns : tie.Need-returns
+returns c = simp (lt-ltb _ _ (c .if1 .taken))
+
+returns-2 : tie.Need-returns-2
+returns-2 c = simp (le-ltb _ _ (c .if1 .left))
+
+pub hex-char-spec : {M : Type 1} → statement M
+hex-char-spec = tie.close (tie.spec add-result add-result-2 returns returns-2)

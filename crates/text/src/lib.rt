@@ -1,0 +1,26 @@
+// The small words of case lines: hex digits and the numbers that they spell, words and lists of words, and the names of the ten kinds.
+// Every call is total: what is no such digit, number or name has an answer of its own.
+mod digits;
+mod names;
+mod words;
+
+pub use digits::hex_char;
+pub use digits::hex_digit;
+pub use digits::hex_number;
+pub use names::digits_of;
+pub use names::kind_named;
+pub use words::nth_word;
+pub use words::place_of;
+pub use words::word_number;
+
+// The value of a hex digit.
+pub enum Digit {
+    Is(u8),
+    Nothing,
+}
+
+// The number that hex digits spell.
+pub enum Hex {
+    Is(u64),
+    Malformed,
+}

@@ -1,0 +1,31 @@
+// The names of the kinds, and how many hex digits a value of each has.
+ghost use mathlib.Core.Path.{_≡_};
+ghost use Rattle.text.specs.Names.{kindNamed, digitsOf};
+use crate::words::word_number;
+use value::Kind;
+use value::KindFound;
+use value::kind_of_number;
+
+// The names stand in the order of the kinds.
+pub fn kind_named(s: &[u8]) -> KindFound
+    ensures { λ r. ⌜ r ≡ kindNamed (now (s .entry)) ⌝ }
+{
+    kind_of_number(word_number(s, b"u8 u16 u32 u64 i8 i16 i32 i64 f32 f64") as u8)
+}
+
+pub fn digits_of(k: Kind) -> usize
+    ensures { λ r. ⌜ r ≡ digitsOf k ⌝ }
+{
+    match k {
+        Kind::U8 => 2,
+        Kind::U16 => 4,
+        Kind::U32 => 8,
+        Kind::U64 => 16,
+        Kind::I8 => 2,
+        Kind::I16 => 4,
+        Kind::I32 => 8,
+        Kind::I64 => 16,
+        Kind::F32 => 8,
+        Kind::F64 => 16,
+    }
+}

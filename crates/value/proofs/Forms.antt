@@ -1,0 +1,67 @@
+-- A value is of an integer kind or holds a float; an integer kind's value is told by its kind and its number.
+use mathlib.Core.Path.{_≡_, refl, sym, _∙_, ap}
+use mathlib.Core.Logic.{_⊎_, inl, inr}
+use mathlib.Core.Bool.{Bool, true, false}
+use Prim.Native.Nat.{ℕ}
+use lib.Dec.{T, ltb}
+use lib.IntN.{ℤ, pos, negsuc, natAbs}
+use lib.Ieee.{Float, Format, binary32, binary64}
+use Rattle.value.specs.declared.Kind.{Kind}
+use Rattle.value.specs.declared.Kind.the-variants as kind
+use Rattle.value.specs.declared.Value.{Value}
+use Rattle.value.specs.declared.Value.the-variants.{U8, U16, U32, U64, I8, I16, I32, I64, F32, F64}
+use Rattle.value.specs.Kinds.{kindOf, kindNumber, Form, float, formOf}
+use Rattle.value.specs.Meaning.{Content, real, contentOf, positionOf}
+
+-- the kind is one of the first eight
+abbrev pub Whole : Value → Type 0
+Whole v = T (ltb (kindNumber (kindOf v)) 8)
+
+pub record Floating (v : Value) : Type 0 where
+  pub format : Format
+  pub number : Float
+  pub word : ℕ
+  pub content : contentOf v ≡ real format number word
+  pub form : formOf (kindOf v) ≡ float format
+  pub not-whole : Whole v → ⊥
+
+pub whole-or-floating : (v : Value) → Whole v ⊎ Floating v
+whole-or-floating (U8 n) = inl tt
+whole-or-floating (U16 n) = inl tt
+whole-or-floating (U32 n) = inl tt
+whole-or-floating (U64 n) = inl tt
+whole-or-floating (I8 z) = inl tt
+whole-or-floating (I16 z) = inl tt
+whole-or-floating (I32 z) = inl tt
+whole-or-floating (I64 z) = inl tt
+whole-or-floating (F32 x w) = inr (record { format = binary32; number = x; word = w; content = refl; form = refl; not-whole = λ t. t })
+whole-or-floating (F64 x w) = inr (record { format = binary64; number = x; word = w; content = refl; form = refl; not-whole = λ t. t })
+
+-- the value of an integer kind with a number
+remade : Kind → ℤ → Value
+remade kind.U8 z = U8 (natAbs z)
+remade kind.U16 z = U16 (natAbs z)
+remade kind.U32 z = U32 (natAbs z)
+remade kind.U64 z = U64 (natAbs z)
+remade kind.I8 z = I8 z
+remade kind.I16 z = I16 z
+remade kind.I32 z = I32 z
+remade kind.I64 z = I64 z
+remade kind.F32 z = I64 z
+remade kind.F64 z = I64 z
+
+remade-same : (v : Value) → Whole v → remade (kindOf v) (positionOf v) ≡ v
+unfolding remade
+remade-same (U8 n) t = refl
+remade-same (U16 n) t = refl
+remade-same (U32 n) t = refl
+remade-same (U64 n) t = refl
+remade-same (I8 z) t = refl
+remade-same (I16 z) t = refl
+remade-same (I32 z) t = refl
+remade-same (I64 z) t = refl
+remade-same (F32 x w) t = absurd t
+remade-same (F64 x w) t = absurd t
+
+pub whole-same : (a b : Value) → Whole a → Whole b → kindOf a ≡ kindOf b → positionOf a ≡ positionOf b → a ≡ b
+whole-same a b s t k p = sym (remade-same a s) ∙ cc (k, p) ∙ remade-same b t
