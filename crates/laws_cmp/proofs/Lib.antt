@@ -2,3 +2,4 @@ pub mod Comparison
 pub mod TotalOrder
 pub mod Integers
 pub mod Carried
+pub mod Choices

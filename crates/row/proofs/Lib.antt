@@ -2,3 +2,4 @@ pub mod Scan
 pub mod Written
 pub mod Rows
 pub mod ClampRow
+pub mod Determined
