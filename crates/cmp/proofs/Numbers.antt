@@ -1,10 +1,14 @@
 -- Two values of one kind by the numbers that they stand for: the common unit changes no order.
 use mathlib.Core.Path.{_≡_, refl, sym, _∙_, ap}
-use Prim.Native.Nat.{ℕ, _<_}
+use Prim.Native.Nat.{ℕ, _^_, _≤_, _<_}
 use lib.Dec.{T, ltb, lit<}
 use lib.Pow.{pow-pos}
 use lib.IntN.{ℤ, pos, negsuc}
 use lib.Ieee.{Format, binary32, binary64}
+use mir.Syntax.{Width, w64}
+use mir.Val.{SFits, hbits, toZ, ofZ}
+use mir.ValLaws.{toZ-ofZ}
+use Rattle.float.specs.declared.Order.{Order}
 use Rattle.float.specs.Format.{fractionOf, exponentOf}
 use Rattle.float.specs.Number.{times}
 use Rattle.float.specs.Number as float-number
@@ -13,6 +17,7 @@ use Rattle.float.specs.Order as float
 use Rattle.value.specs.declared.Value.{Value}
 use Rattle.value.specs.declared.Value.the-variants.{U8, U16, U32, U64, I8, I16, I32, I64, F32, F64}
 use Rattle.value.specs.Kinds.{kindOf, kindNumber}
+use Rattle.value.proofs.TwosComplement.{wider, recast, recast-back}
 use Rattle.float.proofs.Comparing.{times-order}
 use Rattle.value.specs.Meaning.{wholeOf, unit, stepOf, exactOf, numberOf, positionOf}
 
@@ -57,3 +62,15 @@ whole-position (F64 x w) t = absurd t
 
 pub positions-order : (a b : Value) → T (ltb (kindNumber (kindOf a)) 8) → T (ltb (kindNumber (kindOf b)) 8) → orderOf (numberOf a) (numberOf b) ≡ orderZ (positionOf a) (positionOf b)
 positions-order a b s t = cc (whole-position a s, whole-position b t) ∙ sym (integers-order (positionOf a) (positionOf b))
+
+-- ---- two signed numbers, which the machine reads back from their bits at the width 64
+
+pub wide-order : (y z : ℤ) {o : Order} → SFits w64 y → SFits w64 z → o ≡ orderZ (toZ w64 (ofZ w64 y)) (toZ w64 (ofZ w64 z)) → o ≡ orderZ y z
+wide-order y z f g h = h ∙ cc (toZ-ofZ w64 y f, toZ-ofZ w64 z g)
+
+pub narrow-order : {v : Width} (y z : ℤ) {o : Order} → 2 ^ hbits v ≤ 2 ^ hbits w64 → SFits v y → SFits v z
+    → o ≡ orderZ (toZ w64 (ofZ w64 (toZ v (ofZ v y)))) (toZ w64 (ofZ w64 (toZ v (ofZ v z)))) → o ≡ orderZ y z
+narrow-order y z l f g h = h ∙ cc (recast-back w64 f (wider w64 l f), recast-back w64 g (wider w64 l g))
+
+pub narrow-fits : {v : Width} (z : ℤ) → 2 ^ hbits v ≤ 2 ^ hbits w64 → SFits v z → SFits w64 (toZ v (ofZ v z))
+narrow-fits z l f = recast w64 f (wider w64 l f)

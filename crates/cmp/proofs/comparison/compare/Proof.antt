@@ -5,31 +5,29 @@ use borrow.Author.Needs.{needs}
 use lib.Dec.{lit≤}
 use lib.IntN.{pos}
 use lib.Ieee.{binary32, binary64}
-use mir.Syntax.{w8, w16, w32, w64}
-use mir.Val.{SFits}
-use mir.ValLaws.{toZ-ofZ}
-use Rattle.value.proofs.TwosComplement.{wider, recast, recast-back}
+use mir.Syntax.{w8, w16, w32}
+use Rattle.cmp.proofs.Numbers.{wide-order, narrow-order, narrow-fits}
 use Rattle.cmp.proofs.Answers.{compare-refused, compare-integers, compare-floats}
 use Rattle.cmp.proofs.comparison.compare.Statement.{statement}
 use Rattle.cmp.proofs.comparison.compare.Tie as tie
 
 cast-order-i64 : tie.Need-cast-order-i64
-cast-order-i64 c = let f : SFits w8 (c .before .before .before .before .a5 .given .0 .0) = search needs in recast w64 f (wider w64 (lit≤ tt) f)
+cast-order-i64 c = narrow-fits {v = w8} (c .before .before .before .before .a5 .given .0 .0) (lit≤ tt) (search needs)
 
 cast-order-i64-2 : tie.Need-cast-order-i64-2
-cast-order-i64-2 c = let f : SFits w8 (c .before .b5 .given .0 .0) = search needs in recast w64 f (wider w64 (lit≤ tt) f)
+cast-order-i64-2 c = narrow-fits {v = w8} (c .before .b5 .given .0 .0) (lit≤ tt) (search needs)
 
 cast-order-i64-3 : tie.Need-cast-order-i64-3
-cast-order-i64-3 c = let f : SFits w16 (c .before .before .before .before .a6 .given .0 .0) = search needs in recast w64 f (wider w64 (lit≤ tt) f)
+cast-order-i64-3 c = narrow-fits {v = w16} (c .before .before .before .before .a6 .given .0 .0) (lit≤ tt) (search needs)
 
 cast-order-i64-4 : tie.Need-cast-order-i64-4
-cast-order-i64-4 c = let f : SFits w16 (c .before .b6 .given .0 .0) = search needs in recast w64 f (wider w64 (lit≤ tt) f)
+cast-order-i64-4 c = narrow-fits {v = w16} (c .before .b6 .given .0 .0) (lit≤ tt) (search needs)
 
 cast-order-i64-5 : tie.Need-cast-order-i64-5
-cast-order-i64-5 c = let f : SFits w32 (c .before .before .before .before .a7 .given .0 .0) = search needs in recast w64 f (wider w64 (lit≤ tt) f)
+cast-order-i64-5 c = narrow-fits {v = w32} (c .before .before .before .before .a7 .given .0 .0) (lit≤ tt) (search needs)
 
 cast-order-i64-6 : tie.Need-cast-order-i64-6
-cast-order-i64-6 c = let f : SFits w32 (c .before .b7 .given .0 .0) = search needs in recast w64 f (wider w64 (lit≤ tt) f)
+cast-order-i64-6 c = narrow-fits {v = w32} (c .before .b7 .given .0 .0) (lit≤ tt) (search needs)
 
 returns : tie.Need-returns
 returns c = compare-integers (c .before .before .before .before .before .a .given .1) (c .before .before .b .given .1) refl (pos _) (pos _) refl refl (c .order-u64 .ensures)
@@ -59,9 +57,7 @@ returns-9 : tie.Need-returns-9
 returns-9 c =
     let x = c .before .before .before .before .before .a5 .given in
     let y = c .before .before .b5 .given in
-    let f : SFits w8 (x .0 .0) = search needs in
-    let g : SFits w8 (y .0 .0) = search needs in
-    compare-integers (x .1) (y .1) refl (x .0 .0) (y .0 .0) refl refl (simp (recast-back w64 f (wider w64 (lit≤ tt) f), recast-back w64 g (wider w64 (lit≤ tt) g)) at (c .order-i64 .ensures))
+    compare-integers (x .1) (y .1) refl (x .0 .0) (y .0 .0) refl refl (narrow-order {v = w8} (x .0 .0) (y .0 .0) (lit≤ tt) (search needs) (search needs) (c .order-i64 .ensures))
 
 returns-10 : tie.Need-returns-10
 returns-10 c = c .kinds-differ5 .ensures ∙ compare-refused 0 (1 ∷ 2 ∷ 3 ∷ 5 ∷ 6 ∷ 7 ∷ 8 ∷ 9 ∷ []) _ (c .before .before .before .a5 .given .1) (c .before .match6 .keys2) tt
@@ -70,9 +66,7 @@ returns-11 : tie.Need-returns-11
 returns-11 c =
     let x = c .before .before .before .before .before .a6 .given in
     let y = c .before .before .b6 .given in
-    let f : SFits w16 (x .0 .0) = search needs in
-    let g : SFits w16 (y .0 .0) = search needs in
-    compare-integers (x .1) (y .1) refl (x .0 .0) (y .0 .0) refl refl (simp (recast-back w64 f (wider w64 (lit≤ tt) f), recast-back w64 g (wider w64 (lit≤ tt) g)) at (c .order-i642 .ensures))
+    compare-integers (x .1) (y .1) refl (x .0 .0) (y .0 .0) refl refl (narrow-order {v = w16} (x .0 .0) (y .0 .0) (lit≤ tt) (search needs) (search needs) (c .order-i642 .ensures))
 
 returns-12 : tie.Need-returns-12
 returns-12 c = c .kinds-differ6 .ensures ∙ compare-refused 0 (1 ∷ 2 ∷ 3 ∷ 4 ∷ 6 ∷ 7 ∷ 8 ∷ 9 ∷ []) _ (c .before .before .before .a6 .given .1) (c .before .match7 .keys2) tt
@@ -81,9 +75,7 @@ returns-13 : tie.Need-returns-13
 returns-13 c =
     let x = c .before .before .before .before .before .a7 .given in
     let y = c .before .before .b7 .given in
-    let f : SFits w32 (x .0 .0) = search needs in
-    let g : SFits w32 (y .0 .0) = search needs in
-    compare-integers (x .1) (y .1) refl (x .0 .0) (y .0 .0) refl refl (simp (recast-back w64 f (wider w64 (lit≤ tt) f), recast-back w64 g (wider w64 (lit≤ tt) g)) at (c .order-i643 .ensures))
+    compare-integers (x .1) (y .1) refl (x .0 .0) (y .0 .0) refl refl (narrow-order {v = w32} (x .0 .0) (y .0 .0) (lit≤ tt) (search needs) (search needs) (c .order-i643 .ensures))
 
 returns-14 : tie.Need-returns-14
 returns-14 c = c .kinds-differ7 .ensures ∙ compare-refused 0 (1 ∷ 2 ∷ 3 ∷ 4 ∷ 5 ∷ 7 ∷ 8 ∷ 9 ∷ []) _ (c .before .before .before .a7 .given .1) (c .before .match8 .keys2) tt
@@ -92,9 +84,7 @@ returns-15 : tie.Need-returns-15
 returns-15 c =
     let x = c .before .before .before .before .before .a8 .given in
     let y = c .before .before .b8 .given in
-    let f : SFits w64 (x .0 .0) = search needs in
-    let g : SFits w64 (y .0 .0) = search needs in
-    compare-integers (x .1) (y .1) refl (x .0 .0) (y .0 .0) refl refl (simp (toZ-ofZ w64 _ f, toZ-ofZ w64 _ g) at (c .order-i644 .ensures))
+    compare-integers (x .1) (y .1) refl (x .0 .0) (y .0 .0) refl refl (wide-order (x .0 .0) (y .0 .0) (search needs) (search needs) (c .order-i644 .ensures))
 
 returns-16 : tie.Need-returns-16
 returns-16 c = c .kinds-differ8 .ensures ∙ compare-refused 0 (1 ∷ 2 ∷ 3 ∷ 4 ∷ 5 ∷ 6 ∷ 8 ∷ 9 ∷ []) _ (c .before .before .before .a8 .given .1) (c .before .match9 .keys2) tt

@@ -3,28 +3,24 @@ use mathlib.Core.Path.{_≡_, refl, _∙_}
 use mathlib.Core.List.{[], _∷_}
 use borrow.Author.Needs.{needs}
 use lib.Dec.{lit≤}
-use mir.Syntax.{w32, w64}
-use mir.Val.{SFits}
-use mir.ValLaws.{toZ-ofZ}
+use mir.Syntax.{w32}
 use Rattle.float.specs.Order.{orderZ}
-use Rattle.value.proofs.TwosComplement.{wider, recast, recast-back}
+use Rattle.cmp.proofs.Numbers.{wide-order, narrow-order, narrow-fits}
 use Rattle.cmp.proofs.Answers.{total-refused, total-given, total-integers}
 use Rattle.cmp.proofs.total.total_order.Statement.{statement}
 use Rattle.cmp.proofs.total.total_order.Tie as tie
 
 cast-order-i64 : tie.Need-cast-order-i64
-cast-order-i64 c = let f : SFits w32 (c .before .before .position-f32 .result) = search needs in recast w64 f (wider w64 (lit≤ tt) f)
+cast-order-i64 c = narrow-fits {v = w32} (c .before .before .position-f32 .result) (lit≤ tt) (search needs)
 
 cast-order-i64-2 : tie.Need-cast-order-i64-2
-cast-order-i64-2 c = let f : SFits w32 (c .position-f322 .result) = search needs in recast w64 f (wider w64 (lit≤ tt) f)
+cast-order-i64-2 c = narrow-fits {v = w32} (c .position-f322 .result) (lit≤ tt) (search needs)
 
 returns : tie.Need-returns
 returns c =
     let second = c .before in
     let first = second .before .before in
-    let f : SFits w32 (first .position-f32 .result) = search needs in
-    let g : SFits w32 (second .position-f322 .result) = search needs in
-    let o : c .order-i64 .result ≡ orderZ (first .position-f32 .result) (second .position-f322 .result) = simp (recast-back w64 f (wider w64 (lit≤ tt) f), recast-back w64 g (wider w64 (lit≤ tt) g)) at (c .order-i64 .ensures) in
+    let o : c .order-i64 .result ≡ orderZ (first .position-f32 .result) (second .position-f322 .result) = narrow-order {v = w32} (first .position-f32 .result) (second .position-f322 .result) (lit≤ tt) (search needs) (search needs) (c .order-i64 .ensures) in
     total-given (first .before .before .before .before .before .before .a .given .1) (first .before .before .before .b .given .1) refl
     (o ∙ cc (first .position-f32 .ensures, second .position-f322 .ensures, first .before .bits-f32 .ensures, second .before .bits-f322 .ensures))
 
@@ -35,9 +31,7 @@ returns-3 : tie.Need-returns-3
 returns-3 c =
     let second = c .before in
     let first = second .before .before in
-    let f : SFits w64 (first .position-f64 .result) = search needs in
-    let g : SFits w64 (second .position-f642 .result) = search needs in
-    let o : c .order-i642 .result ≡ orderZ (first .position-f64 .result) (second .position-f642 .result) = simp (toZ-ofZ w64 _ f, toZ-ofZ w64 _ g) at (c .order-i642 .ensures) in
+    let o : c .order-i642 .result ≡ orderZ (first .position-f64 .result) (second .position-f642 .result) = wide-order (first .position-f64 .result) (second .position-f642 .result) (search needs) (search needs) (c .order-i642 .ensures) in
     total-given (first .before .before .before .before .before .before .a2 .given .1) (first .before .before .before .b2 .given .1) refl
     (o ∙ cc (first .position-f64 .ensures, second .position-f642 .ensures, first .before .bits-f64 .ensures, second .before .bits-f642 .ensures))
 
