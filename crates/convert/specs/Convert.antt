@@ -1,0 +1,129 @@
+-- Exact conversion, all ordered pairs of kinds: five rules in their order, and the value that has the number. RULES.md: Exact conversion.
+use Prim.Native.Nat.{ℕ, zero, suc, _+_, _-_, _*_, _/_, _%_, _^_}
+use mathlib.Core.Bool.{Bool, true, false, not, _&&_, cond}
+use lib.Dec.{eqb, ltb}
+use lib.Ieee.{Format, binary32, binary64, size}
+use Rattle.float.specs.Format.{fractionOf, exponentOf, infOf, signOf, magOf}
+use Rattle.float.specs.ClassMeaning.{largestOf}
+use Rattle.float.specs.Number.{Exact, notNumber, infinite, finite, signedOf}
+use Rattle.value.specs.declared.Kind.{Kind}
+use Rattle.value.specs.declared.Kind.the-variants as kind
+use Rattle.value.specs.declared.Value.{Value}
+use Rattle.value.specs.declared.Value.the-variants.{U8, U16, U32, U64, I8, I16, I32, I64}
+use Rattle.value.specs.Kinds.{Form, unsigned, signed, float, formOf, kindOf, kindNumber}
+use Rattle.value.specs.Meaning.{exactOf, unit, stepOf, f32Value, f64Value}
+use Rattle.value.specs.Outcome.{Outcome, gives, refuseIf}
+
+-- ---- a magnitude in a float format, in units of 2^-1074
+
+-- how many digits below the p + 1 leading ones a magnitude has, above the format's smallest step
+abbrev pub dropped : Format → ℕ → ℕ
+dropped f m = size (m / stepOf f) - suc (fractionOf f)
+
+-- the abs of the pattern that keeps the p + 1 leading digits
+unfoldable pub encodeOf : Format → ℕ → ℕ
+encodeOf f m = dropped f m * 2 ^ fractionOf f + m / stepOf f / 2 ^ dropped f m
+
+-- written as a pattern and read back, it is the same magnitude
+unfoldable pub heldIn : Format → ℕ → Bool
+heldIn f m = eqb (magOf (fractionOf f) (encodeOf f m) * stepOf f) m
+
+-- ---- the rules of a target form
+
+-- 1: a NaN
+abbrev pub isNone : Exact → Bool
+isNone notNumber = true
+isNone (infinite s) = false
+isNone (finite s m) = false
+
+-- 2: an infinity to an integer kind
+abbrev pub isInfinite : Exact → Bool
+isInfinite notNumber = false
+isInfinite (infinite s) = true
+isInfinite (finite s m) = false
+
+abbrev pub isInteger : Form → Bool
+isInteger (unsigned k) = true
+isInteger (signed k) = true
+isInteger (float f) = false
+
+-- 3: a finite number with a fraction, to an integer kind
+abbrev pub hasFraction : Exact → Bool
+hasFraction notNumber = false
+hasFraction (infinite s) = false
+hasFraction (finite s m) = not (eqb (m % unit) 0)
+
+-- 4: the number lies outside the target's range, which goes from -low to high
+abbrev pub outside : ℕ → ℕ → Bool → ℕ → Bool
+outside low high true n = ltb low n
+outside low high false n = ltb high n
+
+abbrev pub outOfForm : Form → Bool → ℕ → Bool
+outOfForm (unsigned k) s m = outside 0 (2 ^ k - 1) s (m / unit)
+outOfForm (signed k) s m = outside (2 ^ (k - 1)) (2 ^ (k - 1) - 1) s (m / unit)
+outOfForm (float f) s m = ltb (largestOf (fractionOf f) (exponentOf f) * stepOf f) m
+
+abbrev pub outOfRange : Form → Exact → Bool
+outOfRange form notNumber = false
+outOfRange form (infinite s) = false
+outOfRange form (finite s m) = outOfForm form s m
+
+-- 5: inside the range, but the target float has no such number
+abbrev pub notHeldIn : Form → ℕ → Bool
+notHeldIn (unsigned k) m = false
+notHeldIn (signed k) m = false
+notHeldIn (float f) m = not (heldIn f m)
+
+abbrev pub notHeld : Form → Exact → Bool
+notHeld form notNumber = false
+notHeld form (infinite s) = false
+notHeld form (finite s m) = notHeldIn form m
+
+-- ---- the value of a kind that has the number
+
+-- the pattern with its sign bit
+abbrev pub withSign : Format → Bool → ℕ → ℕ
+withSign f s a = cond s (signOf (fractionOf f) (exponentOf f) + a) a
+
+abbrev pub patternFor : Format → Exact → ℕ
+patternFor f notNumber = 0
+patternFor f (infinite s) = withSign f s (infOf (fractionOf f) (exponentOf f))
+patternFor f (finite s m) = withSign f s (encodeOf f m)
+
+abbrev pub magnitudeFor : Exact → ℕ
+magnitudeFor notNumber = 0
+magnitudeFor (infinite s) = 0
+magnitudeFor (finite s m) = m / unit
+
+abbrev pub signFor : Exact → Bool
+signFor notNumber = false
+signFor (infinite s) = s
+signFor (finite s m) = s
+
+unfoldable pub madeIn : Kind → Exact → Value
+madeIn kind.U8 x = U8 (magnitudeFor x)
+madeIn kind.U16 x = U16 (magnitudeFor x)
+madeIn kind.U32 x = U32 (magnitudeFor x)
+madeIn kind.U64 x = U64 (magnitudeFor x)
+madeIn kind.I8 x = I8 (signedOf (signFor x) (magnitudeFor x))
+madeIn kind.I16 x = I16 (signedOf (signFor x) (magnitudeFor x))
+madeIn kind.I32 x = I32 (signedOf (signFor x) (magnitudeFor x))
+madeIn kind.I64 x = I64 (signedOf (signFor x) (magnitudeFor x))
+madeIn kind.F32 x = f32Value (patternFor binary32 x)
+madeIn kind.F64 x = f64Value (patternFor binary64 x)
+
+-- ---- the conversion
+
+-- to another kind: the first rule that holds refuses, else the value of the kind with the number
+unfoldable pub intoOf : Kind → Exact → Outcome Value
+intoOf to x =
+    refuseIf (isNone x) 1 0
+    (refuseIf (isInfinite x && isInteger (formOf to)) 2 0
+    (refuseIf (hasFraction x && isInteger (formOf to)) 3 0
+    (refuseIf (outOfRange (formOf to) x) 4 0
+    (refuseIf (notHeld (formOf to) x) 5 0
+    (gives (madeIn to x))))))
+
+-- to its own kind every value comes back as it is
+unfoldable pub convertOf : Value → Kind → Outcome Value
+convertOf v to = cond (eqb (kindNumber (kindOf v)) (kindNumber to)) (gives v) (intoOf to (exactOf v))
