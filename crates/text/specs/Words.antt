@@ -1,13 +1,21 @@
 -- Words as lists of bytes: the place of a byte, equality, the words that spaces part, and their numbers.
-use Prim.Native.Nat.{ℕ, zero, suc}
+use Prim.Native.Nat.{ℕ, zero, suc, _+_}
 use mathlib.Core.Bool.{Bool, true, false, cond, _&&_}
 use mathlib.Core.List.{List, [], _∷_}
 use lib.Dec.{eqb}
+use lib.ListN.{take, drop}
 
 -- the place of the first b, or the length where there is none
 unfoldable pub placeOf : ℕ → List ℕ → ℕ
 placeOf b [] = 0
 placeOf b (x ∷ s) = cond (eqb x b) 0 (suc (placeOf b s))
+
+-- what stands before the first b, and what follows it
+abbrev pub beforeOf : ℕ → List ℕ → List ℕ
+beforeOf b s = take (placeOf b s) s
+
+abbrev pub afterOf : ℕ → List ℕ → List ℕ
+afterOf b s = drop (placeOf b s + 1) s
 
 -- the same bytes in the same order
 unfoldable pub sameBytes : List ℕ → List ℕ → Bool

@@ -7,10 +7,14 @@ mod words;
 pub use digits::hex_char;
 pub use digits::hex_digit;
 pub use digits::hex_number;
+pub use names::KIND_NAMES;
 pub use names::digits_of;
 pub use names::kind_named;
+pub use words::after;
+pub use words::before;
 pub use words::nth_word;
 pub use words::place_of;
+pub use words::word_count;
 pub use words::word_number;
 
 // The value of a hex digit.

@@ -7,10 +7,12 @@ use value::KindFound;
 use value::kind_of_number;
 
 // The names stand in the order of the kinds.
+pub const KIND_NAMES: [u8; 37] = *b"u8 u16 u32 u64 i8 i16 i32 i64 f32 f64";
+
 pub fn kind_named(s: &[u8]) -> KindFound
     ensures { λ r. ⌜ r ≡ kindNamed (now (s .entry)) ⌝ }
 {
-    kind_of_number(word_number(s, b"u8 u16 u32 u64 i8 i16 i32 i64 f32 f64") as u8)
+    kind_of_number(word_number(s, &KIND_NAMES) as u8)
 }
 
 pub fn digits_of(k: Kind) -> usize

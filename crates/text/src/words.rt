@@ -2,7 +2,7 @@
 ghost use mathlib.Core.Path.{_≡_};
 ghost use Prim.Native.Nat.{_≤_};
 ghost use lib.ListN.{length, take};
-ghost use Rattle.text.specs.Words.{placeOf, sameBytes, wordsOf, numberAmong, nthOf};
+ghost use Rattle.text.specs.Words.{placeOf, beforeOf, afterOf, sameBytes, wordsOf, numberAmong, nthOf};
 
 // The place of the first b in s, or the length of s. The last clause follows from the one before it: `&s[..r]` asks for both.
 pub fn place_of(b: u8, s: &[u8]) -> usize
@@ -18,6 +18,25 @@ pub fn place_of(b: u8, s: &[u8]) -> usize
         i += 1;
     }
     i
+}
+
+// What stands before the first b, or all of s.
+pub fn before<'a>(b: u8, s: &'a [u8]) -> &'a [u8]
+    ensures { λ r. ⌜ now r ≡ beforeOf b (now (s .entry)) ⌝ }
+{
+    let end = place_of(b, s);
+    &s[..end]
+}
+
+// What follows the first b, or nothing.
+pub fn after<'a>(b: u8, s: &'a [u8]) -> &'a [u8]
+    ensures { λ r. ⌜ now r ≡ afterOf b (now (s .entry)) ⌝ }
+{
+    let end = place_of(b, s);
+    if end == s.len() {
+        return &s[end..];
+    }
+    &s[end + 1..]
 }
 
 fn same(a: &[u8], b: &[u8]) -> bool
@@ -47,6 +66,22 @@ pub fn word_number(s: &[u8], words: &[u8]) -> usize
         if same(s, &rest[..end]) {
             return n;
         }
+        n += 1;
+        if end == rest.len() {
+            return n;
+        }
+        rest = &rest[end + 1..];
+    }
+}
+
+// How many words a list has.
+pub fn word_count(words: &[u8]) -> usize
+    ensures { λ r. ⌜ r ≡ length (wordsOf (now (words .entry))) ⌝ }
+{
+    let mut rest = words;
+    let mut n = 0;
+    loop {
+        let end = place_of(b' ', rest);
         n += 1;
         if end == rest.len() {
             return n;

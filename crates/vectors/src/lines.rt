@@ -1,70 +1,47 @@
-// What a line asks, by its first word, and the answer to it. A new kind of line is a word here, with its number in `word_named`, and an arm
-// of `answer_to`, or of `of_pair` when it takes two values.
+// What a line asks, by its first word, and the answer to it. A new word stands in the list of the function for its operands, with an arm
+// of its own there. A line whose answer is a row is put from the row; every other answer is a value.
+ghost use Rattle.io.specs.Counts.{Counts};
+use crate::answers::Answer;
+use crate::answers::put_answer;
 use crate::operands::OneValue;
 use crate::operands::TwoValues;
 use crate::operands::value_in;
 use crate::operands::values_in;
+use crate::rows::put_row_clamp;
+use cmp::Chosen;
 use cmp::Compared;
 use cmp::Tested;
-use float::Class;
-use float::Order;
 use float::class_f32;
 use float::class_f64;
+use text::nth_word;
 use text::place_of;
+use text::word_count;
 use text::word_number;
-use value::Refusal;
 use value::Value;
 use value::bits_f32;
 use value::bits_f64;
 
-pub enum Answer {
-    Class(Class),
-    Order(Order),
-    Test(bool),
-    Refused(Refusal),
-    Malformed,
-}
-
-// The words that a line begins with.
-enum Word {
-    Class,
-    Compare,
-    Total,
-    Eq,
-    Ne,
-    Lt,
-    Le,
-    Gt,
-    Ge,
-    Unknown,
-}
-
-fn word_named(s: &[u8]) -> Word {
-    match word_number(s, b"class compare total eq ne lt le gt ge") {
-        0 => Word::Class,
-        1 => Word::Compare,
-        2 => Word::Total,
-        3 => Word::Eq,
-        4 => Word::Ne,
-        5 => Word::Lt,
-        6 => Word::Le,
-        7 => Word::Gt,
-        8 => Word::Ge,
-        _ => Word::Unknown,
-    }
-}
-
 // A word, a space, and the operands that the word takes.
-pub(crate) fn answer_to(line: &[u8]) -> Answer {
+pub(crate) fn put_reply(output: &mut [u8], used: usize, row: &mut [f32], line: &[u8]) -> usize
+    requires { ⌜ Counts used (now output) ⌝ }
+    ensures { λ r. ⌜ Counts r (now (output .exit)) ⌝ }
+{
     let space = place_of(b' ', line);
     if space == line.len() {
-        return Answer::Malformed;
+        return put_answer(output, used, Answer::Malformed);
     }
+    let word = &line[..space];
     let rest = &line[space + 1..];
-    let word = word_named(&line[..space]);
-    match word {
-        Word::Class => class_line(rest),
-        Word::Unknown => Answer::Malformed,
+    match word_number(word, b"rowclamp") {
+        0 => put_row_clamp(output, used, row, rest),
+        _ => put_answer(output, used, answer_to(word, rest)),
+    }
+}
+
+fn answer_to(word: &[u8], rest: &[u8]) -> Answer {
+    match word_number(word, b"class clamp") {
+        0 => class_line(rest),
+        1 => clamp_line(rest),
         _ => pair_line(word, rest),
     }
 }
@@ -81,26 +58,47 @@ fn class_line(rest: &[u8]) -> Answer {
     }
 }
 
-fn pair_line(word: Word, rest: &[u8]) -> Answer {
-    let TwoValues::Are(a, b) = values_in(rest) else {
+fn clamp_line(rest: &[u8]) -> Answer {
+    if word_count(rest) != 3 {
+        return Answer::Malformed;
+    }
+    let OneValue::Is(v) = value_in(nth_word(rest, 0)) else {
         return Answer::Malformed;
     };
-    of_pair(word, a, b)
+    let OneValue::Is(lower) = value_in(nth_word(rest, 1)) else {
+        return Answer::Malformed;
+    };
+    let OneValue::Is(upper) = value_in(nth_word(rest, 2)) else {
+        return Answer::Malformed;
+    };
+    chosen(cmp::clamp(v, lower, upper))
 }
 
 // The words that take two values.
-fn of_pair(word: Word, a: Value, b: Value) -> Answer {
-    match word {
-        Word::Compare => compared(cmp::compare(a, b)),
-        Word::Total => compared(cmp::total_order(a, b)),
-        Word::Eq => tested(cmp::eq(a, b)),
-        Word::Ne => tested(cmp::ne(a, b)),
-        Word::Lt => tested(cmp::lt(a, b)),
-        Word::Le => tested(cmp::le(a, b)),
-        Word::Gt => tested(cmp::gt(a, b)),
-        Word::Ge => tested(cmp::ge(a, b)),
-        _ => Answer::Malformed,
+fn pair_line(word: &[u8], rest: &[u8]) -> Answer {
+    let TwoValues::Are(a, b) = values_in(rest) else {
+        return Answer::Malformed;
+    };
+    match word_number(word, b"compare total min max") {
+        0 => compared(cmp::compare(a, b)),
+        1 => compared(cmp::total_order(a, b)),
+        2 => chosen(cmp::min(a, b)),
+        3 => chosen(cmp::max(a, b)),
+        _ => test_of(word, a, b),
     }
+}
+
+fn test_of(word: &[u8], a: Value, b: Value) -> Answer {
+    let t = match word_number(word, b"eq ne lt le gt ge") {
+        0 => cmp::eq(a, b),
+        1 => cmp::ne(a, b),
+        2 => cmp::lt(a, b),
+        3 => cmp::le(a, b),
+        4 => cmp::gt(a, b),
+        5 => cmp::ge(a, b),
+        _ => return Answer::Malformed,
+    };
+    tested(t)
 }
 
 fn compared(c: Compared) -> Answer {
@@ -114,5 +112,12 @@ fn tested(t: Tested) -> Answer {
     match t {
         Tested::Is(yes) => Answer::Test(yes),
         Tested::Refused(f) => Answer::Refused(f),
+    }
+}
+
+fn chosen(c: Chosen) -> Answer {
+    match c {
+        Chosen::Is(v) => Answer::Value(v),
+        Chosen::Refused(f) => Answer::Refused(f),
     }
 }

@@ -1,17 +1,19 @@
 // Replays case lines: reads lines on standard input and writes one answer a line on standard output. Its own stdin and stdout, beside src/,
 // are the fixed list of the oracle and the oracle's answers (oracle/README.md). Input is read in blocks and answers wait in a buffer, so
 // that a run makes few calls of the system.
+mod answers;
 mod lines;
 mod operands;
 mod output;
+mod rows;
 
 ghost use mathlib.Core.Path.{_≡_};
 ghost use Prim.Native.Nat.{_+_, _-_, _≤_, _<_};
 ghost use lib.ListN.{length};
 ghost use Rattle.io.specs.Counts.{Counts};
-use lines::Answer;
-use lines::answer_to;
-use output::put_answer;
+use answers::Answer;
+use answers::put_answer;
+use lines::put_reply;
 use text::place_of;
 
 // Where a run stands: `held` bytes of a line that has begun are at the front of the input buffer, `long` says that earlier bytes of that
@@ -33,10 +35,11 @@ struct Done {
 fn main() {
     let mut input = io::large_buffer();
     let mut output = io::large_buffer();
-    run(&mut input, &mut output);
+    let mut row = [0.0f32; 8192];
+    run(&mut input, &mut output, &mut row);
 }
 
-fn run(input: &mut [u8], output: &mut [u8]) {
+fn run(input: &mut [u8], output: &mut [u8], row: &mut [f32; 8192]) {
     let mut s = State {
         held: 0,
         long: false,
@@ -44,15 +47,15 @@ fn run(input: &mut [u8], output: &mut [u8]) {
         turns: u64::MAX,
     };
     while s.turns > 0 {
-        s = step(input, output, s);
+        s = step(input, output, row, s);
     }
     let held = s.held;
-    let used = put_last(output, s.used, s.long, &input[..held]);
+    let used = put_last(output, s.used, row, s.long, &input[..held]);
     io::write_all(libc::STDOUT_FILENO, &output[..used]);
 }
 
 // Reads a block and answers its lines. A line that does not fit in the input buffer is malformed: its bytes are dropped as they come.
-fn step(input: &mut [u8], output: &mut [u8], s: State) -> State
+fn step(input: &mut [u8], output: &mut [u8], row: &mut [f32; 8192], s: State) -> State
     requires { ⌜ 0 < s .turns ⌝ }
     requires { ⌜ s .held ≤ length (now input) ⌝ }
     requires { ⌜ Counts (s .used) (now output) ⌝ }
@@ -71,7 +74,7 @@ fn step(input: &mut [u8], output: &mut [u8], s: State) -> State
         };
     }
     let full = held + got;
-    let done = block(&input[..full], s.long, output, s.used);
+    let done = block(&input[..full], s.long, output, s.used, row);
     let next = done.next;
     let kept = keep(input, next, full);
     if kept == input.len() {
@@ -101,7 +104,7 @@ fn more(input: &mut [u8], held: usize) -> usize
 }
 
 // Answers every line of input that has its newline.
-fn block(input: &[u8], long: bool, output: &mut [u8], used: usize) -> Done
+fn block(input: &[u8], long: bool, output: &mut [u8], used: usize, row: &mut [f32; 8192]) -> Done
     requires { ⌜ Counts used (now output) ⌝ }
     ensures { λ r. ⌜ r .next ≤ length (now (input .entry)) ⌝ }
     ensures { λ r. ⌜ Counts (r .used) (now (output .exit)) ⌝ }
@@ -115,7 +118,7 @@ fn block(input: &[u8], long: bool, output: &mut [u8], used: usize) -> Done
         if end == rest.len() {
             break;
         }
-        used = put_line(output, used, long, &rest[..end]);
+        used = put_line(output, used, row, long, &rest[..end]);
         long = false;
         next = next + end + 1;
     }
@@ -123,14 +126,14 @@ fn block(input: &[u8], long: bool, output: &mut [u8], used: usize) -> Done
 }
 
 // A line of which bytes were dropped is malformed.
-fn put_line(output: &mut [u8], used: usize, long: bool, line: &[u8]) -> usize
+fn put_line(output: &mut [u8], used: usize, row: &mut [f32; 8192], long: bool, line: &[u8]) -> usize
     requires { ⌜ Counts used (now output) ⌝ }
     ensures { λ r. ⌜ Counts r (now (output .exit)) ⌝ }
 {
     if long {
         return put_answer(output, used, Answer::Malformed);
     }
-    put_answer(output, used, answer_to(line))
+    put_reply(output, used, row, line)
 }
 
 // Moves the bytes from next to full to the front: how many there are.
@@ -148,12 +151,12 @@ fn keep(input: &mut [u8], next: usize, full: usize) -> usize
 }
 
 // The last line may lack its newline; after a newline there is no further line.
-fn put_last(output: &mut [u8], used: usize, long: bool, line: &[u8]) -> usize
+fn put_last(output: &mut [u8], used: usize, row: &mut [f32; 8192], long: bool, line: &[u8]) -> usize
     requires { ⌜ Counts used (now output) ⌝ }
     ensures { λ r. ⌜ Counts r (now (output .exit)) ⌝ }
 {
     if long || 0 < line.len() {
-        return put_line(output, used, long, line);
+        return put_line(output, used, row, long, line);
     }
     used
 }

@@ -8,10 +8,10 @@ use Rattle.vectors.proofs.block.Statement.{statement}
 use Rattle.vectors.proofs.block.Tie as tie
 
 abbrev Inv-loop : tie.InvT-loop
-Inv-loop input long output₀ used next₀ long₀ used₀ output next long' used' = (next ≤ length input) × Counts used' output × (length output ≡ length output₀)
+Inv-loop input long output₀ used row₀ next₀ long₀ used₀ output row next long' used' = (next ≤ length input) × Counts used' output × (length output ≡ length output₀)
 
 abbrev μ-loop : tie.MeasureT-loop
-μ-loop input long output₀ used next₀ long₀ used₀ output next long' used' = length input - next
+μ-loop input long output₀ used row₀ next₀ long₀ used₀ output row next long' used' = length input - next
 
 loop-holds : tie.Need-loop-holds Inv-loop μ-loop
 loop-holds c = search needs

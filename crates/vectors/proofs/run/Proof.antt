@@ -9,10 +9,10 @@ use Rattle.vectors.proofs.run.Statement.{statement}
 use Rattle.vectors.proofs.run.Tie as tie
 
 abbrev Inv-loop : tie.InvT-loop
-Inv-loop input₀ output₀ s₀ input output s = (s .held ≤ length input) × Counts (s .used) output × (length input ≡ length input₀) × (length output ≡ length output₀)
+Inv-loop input₀ output₀ row₀ s₀ input output row s = (s .held ≤ length input) × Counts (s .used) output × (length input ≡ length input₀) × (length output ≡ length output₀)
 
 abbrev μ-loop : tie.MeasureT-loop
-μ-loop input₀ output₀ s₀ input output s = s .turns
+μ-loop input₀ output₀ row₀ s₀ input output row s = s .turns
 
 loop-holds : tie.Need-loop-holds Inv-loop μ-loop
 loop-holds c = search needs

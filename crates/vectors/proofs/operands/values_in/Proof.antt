@@ -1,77 +1,34 @@
--- The two sides of the first space are read as `both` says.
-use Prim.Native.Nat.{ℕ, _+_, _-_}
+-- Two words are read as `both` says.
+use Prim.Native.Nat.{ℕ}
 use mathlib.Core.Path.{_≡_, sym, _∙_, ap}
 use mathlib.Core.List.{List}
 use borrow.Author.Needs.{needs}
-use lib.ListN.{length, take, drop}
+use Rattle.text.specs.Words.{wordsOf, nthOf}
 use Rattle.vectors.specs.declared.operands.OneValue.{OneValue}
 use Rattle.vectors.specs.declared.operands.OneValue.the-variants as one
 use Rattle.vectors.specs.Operands.{valueIn, both, valuesIn}
-use Rattle.vectors.proofs.Values.{values-absent, values-parted}
+use Rattle.vectors.proofs.Values.{values-amiss, values-first}
 use Rattle.vectors.proofs.operands.values_in.Statement.{statement}
 use Rattle.vectors.proofs.operands.values_in.Tie as tie
 
-place-of-requires : tie.Need-place-of-requires
-place-of-requires c κs = search needs
-
 returns : tie.Need-returns
-returns c = sym (values-absent _ _ (c .before .place-of .ensures .0) (c .if1 .taken))
+returns c = sym (values-amiss _ (c .before .word-count .ensures) (c .if1 .taken))
 
-slice-aggregate-value-in : tie.Need-slice-aggregate-value-in
-slice-aggregate-value-in c = search needs
-
-value-in-requires : tie.Need-value-in-requires
-value-in-requires c κs = search needs
-
-enum-known-a : tie.Need-enum-known-a
-enum-known-a c = search needs
-
-enum-told : tie.Need-enum-told
-enum-told c = search needs
-
--- the whole text, and what follows its space
+-- after the first value
 abbrev whole-text : tie.After-value-in → List ℕ
 whole-text c = c .before .before .before .before .before .args .s .now
 
-abbrev rest : tie.After-value-in → List ℕ
-rest c =
-    let p = c .before .before .before .place-of .result in
-    take (length (whole-text c) - (p + 1)) (drop (p + 1) (whole-text c))
-
-parted : (c : tie.After-value-in) → valuesIn (whole-text c) ≡ both (c .value-in .result) (valueIn (rest c))
-parted c =
-    let found = c .before .before .before .place-of .ensures in
-    values-parted _ _ (found .0) (found .1 .0) (c .before .before .if1 .left) (c .value-in .ensures)
+first : (c : tie.After-value-in) → valuesIn (whole-text c) ≡ both (c .value-in .result) (valueIn (nthOf 1 (wordsOf (whole-text c))))
+first c =
+    values-first _ (c .before .before .before .word-count .ensures) (c .before .before .if1 .left) (c .before .nth-word .ensures) (c .value-in .ensures)
 
 returns-2 : tie.Need-returns-2
-returns-2 c = sym (parted (c .before .before) ∙ ap (λ (a : OneValue). both a (valueIn (rest (c .before .before)))) (c .enum-told .given .1))
-
-add-value-in : tie.Need-add-value-in
-add-value-in c = search needs
-
-sub-value-in : tie.Need-sub-value-in
-sub-value-in c = search needs
-
-part-value-in-start : tie.Need-part-value-in-start
-part-value-in-start c = search needs
-
-part-value-in-end : tie.Need-part-value-in-end
-part-value-in-end c = search needs
-
-value-in-requires-2 : tie.Need-value-in-requires-2
-value-in-requires-2 c κs = search needs
-
-enum-known-b : tie.Need-enum-known-b
-enum-known-b c = search needs
-
-enum-told-2 : tie.Need-enum-told-2
-enum-told-2 c = search needs
+returns-2 c = sym (first (c .before .before) ∙ ap (λ (a : OneValue). both a (valueIn (nthOf 1 (wordsOf (whole-text (c .before .before)))))) (c .enum-told .given .1))
 
 -- after the second value
 second : (c : tie.After-value-in2) → valuesIn (whole-text (c .before .before .before .before .before)) ≡ both (one.Is (c .before .before .before .a .given .0 .0)) (c .value-in2 .result)
 second c =
-    let first = c .before .before .before .before .before in
-    parted first ∙ ap (λ (a : OneValue). both a (valueIn (rest first))) (c .before .before .before .a .given .1) ∙ ap (both (one.Is _)) (sym (c .value-in2 .ensures))
+    first (c .before .before .before .before .before) ∙ cc (c .before .before .before .a .given .1, c .before .nth-word2 .ensures, c .value-in2 .ensures)
 
 returns-3 : tie.Need-returns-3
 returns-3 c = sym (second (c .before .before) ∙ ap (both (one.Is _)) (c .enum-told2 .given .1))
@@ -83,19 +40,16 @@ pub values-in-spec : {M : Type 1} → statement M
 values-in-spec =
     tie.close
     (tie.spec
-    place-of-requires
+    (λ c κs. search needs)
     returns
-    slice-aggregate-value-in
-    value-in-requires
-    enum-known-a
-    enum-told
+    (λ c κs. search needs)
+    (λ c κs. search needs)
+    (λ c. search needs)
+    (λ c. search needs)
     returns-2
-    add-value-in
-    sub-value-in
-    part-value-in-start
-    part-value-in-end
-    value-in-requires-2
-    enum-known-b
-    enum-told-2
+    (λ c κs. search needs)
+    (λ c κs. search needs)
+    (λ c. search needs)
+    (λ c. search needs)
     returns-3
     returns-4)
