@@ -1,6 +1,6 @@
 -- Marked cases 5 to 10 (RULES.md: Marked cases), by computing the definitions.
 use mathlib.Core.Path.{_≡_, refl}
-use lib.IntN.{pos, negsuc}
+use lib.IntN.{negsuc}
 use lib.Ieee.{toBits, ofBits, ofFields, odd, size, span, climb, isNan}
 use Rattle.float.specs.Format.{absOf, magOf}
 use Rattle.float.specs.Order.{patternOf}

@@ -1,5 +1,5 @@
 -- Exact conversion, all ordered pairs of kinds: five rules in their order, and the value that has the number. RULES.md: Exact conversion.
-use Prim.Native.Nat.{ℕ, zero, suc, _+_, _-_, _*_, _/_, _%_, _^_}
+use Prim.Native.Nat.{ℕ, suc, _+_, _-_, _*_, _/_, _%_, _^_}
 use mathlib.Core.Bool.{Bool, true, false, not, _&&_, cond}
 use lib.Dec.{eqb, ltb}
 use lib.Ieee.{Format, binary32, binary64, size}
@@ -16,13 +16,17 @@ use Rattle.value.specs.Outcome.{Outcome, gives, refuseIf}
 
 -- ---- a magnitude in a float format, in units of 2^-1074
 
--- how many digits below the p + 1 leading ones a magnitude has, above the format's smallest step
-abbrev pub dropped : Format → ℕ → ℕ
-dropped f m = size (m / stepOf f) - suc (fractionOf f)
+-- how many digits of a scaled magnitude lie below its p + 1 leading ones
+abbrev pub dropOf : ℕ → ℕ → ℕ
+dropOf p n = size n - suc p
 
--- the abs of the pattern that keeps the p + 1 leading digits
+-- the abs whose fields keep those leading digits
+abbrev pub encodeAt : ℕ → ℕ → ℕ
+encodeAt p n = dropOf p n * 2 ^ p + n / 2 ^ dropOf p n
+
+-- of a magnitude in units of 2^-1074, counted in the format's smallest steps
 unfoldable pub encodeOf : Format → ℕ → ℕ
-encodeOf f m = dropped f m * 2 ^ fractionOf f + m / stepOf f / 2 ^ dropped f m
+encodeOf f m = encodeAt (fractionOf f) (m / stepOf f)
 
 -- written as a pattern and read back, it is the same magnitude
 unfoldable pub heldIn : Format → ℕ → Bool

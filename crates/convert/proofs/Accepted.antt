@@ -1,0 +1,210 @@
+-- The five rules all pass exactly when some value of the form has the number: by the three forms.
+use mathlib.Core.Path.{_≡_, refl, sym, _∙_, ap, subst}
+use mathlib.Core.Logic.{_⊎_, inl, inr}
+use mathlib.Core.Bool.{Bool, true, false, not, _&&_, true≢false}
+use Prim.Native.Nat.{ℕ, zero, suc, _-_, _*_, _/_, _%_, _^_, _≤_, _<_}
+use native.Mathlib.Nat.{mul-div-cancel, mul-mod-left, mul-le-mul-right, div-add-mod', zero-mul, zero-div}
+use native.Mathlib.Omega.{arith}
+use borrow.Author.Tests.{eq-eqb, eqb-true, ltb-false, le-ltb, not-false}
+use lib.Dec.{eqb}
+use lib.IntN.{ℤ, pos, negsuc, negℤ, natAbs}
+use lib.Signed.{mag}
+use lib.Pow.{pow-pos}
+use lib.Ieee.{Format}
+use Rattle.float.specs.Format.{fractionOf, exponentOf, signOf, infOf, negativeOf, absOf, magOf}
+use Rattle.float.specs.ClassMeaning.{largestOf}
+use Rattle.float.specs.Number.{Exact, notNumber, infinite, finite, times, none, number, infinityOf, numberOf, signedOf}
+use Rattle.float.specs.Order.{patternOf}
+use Rattle.float.proofs.Naturals.{three-ways}
+use Rattle.float.proofs.Magnitude.{mag-grows, mag-largest}
+use Rattle.float.proofs.Comparing.{pattern-nan, pattern-infinite, pattern-finite}
+use Rattle.value.specs.Kinds.{Form, unsigned, signed, float}
+use Rattle.value.specs.Meaning.{wholeOf, unit, stepOf}
+use Rattle.convert.specs.Convert.{isNone, isInfinite, isInteger, hasFraction, outside, outOfRange, notHeld, encodeOf, heldIn, patternFor, magnitudeFor, signFor}
+use Rattle.convert.proofs.Encode.{held-of}
+use Rattle.convert.proofs.Patterns.{two-or-more, inf-range, made-small, encode-below, finite-made, infinite-made}
+
+-- none of the five rules holds
+pub record Accepted (form : Form) (x : Exact) : Type 0 where
+  pub some-number : isNone x ≡ false
+  pub no-infinity : (isInfinite x && isInteger form) ≡ false
+  pub no-fraction : (hasFraction x && isInteger form) ≡ false
+  pub in-range : outOfRange form x ≡ false
+  pub held : notHeld form x ≡ false
+
+-- what the made value means
+abbrev pub exactFor : Form → Exact → Exact
+exactFor (unsigned k) x = times unit (wholeOf (pos (magnitudeFor x)))
+exactFor (signed k) x = times unit (wholeOf (signedOf (signFor x) (magnitudeFor x)))
+exactFor (float f) x = times (stepOf f) (patternOf (fractionOf f) (exponentOf f) (patternFor f x))
+
+-- ---- signs and magnitudes
+
+abbrev isNegative : ℤ → Bool
+isNegative (pos n) = false
+isNegative (negsuc n) = true
+
+abs-signed : (s : Bool) (m : ℕ) → natAbs (signedOf s m) ≡ m
+abs-signed false m = refl
+abs-signed true zero = refl
+abs-signed true (suc m) = refl
+
+signed-mag : (s : Bool) (m : ℕ) (z : ℤ) → number z ≡ numberOf (finite s m) → natAbs z ≡ m
+signed-mag s m z h = let q : z ≡ signedOf s m = cc in ap natAbs q ∙ abs-signed s m
+
+-- minus m is not negative only for 0
+negated : (m n : ℕ) → pos n ≡ negℤ (pos m) → m ≡ 0
+negated zero n h = refl
+negated (suc m) n h = cc
+
+whole-number : (s : Bool) (n u : ℕ) → numberOf (times u (wholeOf (signedOf s n))) ≡ numberOf (finite s (n * u))
+whole-number false n u = refl
+whole-number true zero u = rw (zero-mul u) refl
+whole-number true (suc n) u = refl
+
+unit-pos : 0 < unit
+unfolding unit
+unit-pos = pow-pos 1074
+
+and-true : (b : Bool) → b ≡ (b && true)
+and-true true = refl
+and-true false = refl
+
+-- without a fraction, the whole part has the magnitude
+whole-part : (m : ℕ) → (not (eqb (m % unit) 0) && true) ≡ false → m / unit * unit ≡ m
+whole-part m h = let z : m % unit ≡ 0 = eqb-true _ _ (not-false _ (and-true _ ∙ h)) in omega (arith, div-add-mod' m unit)
+
+-- ---- accepted: the made value has the number
+
+made-unsigned : (k : ℕ) (s : Bool) (m : ℕ) → m / unit * unit ≡ m → outOfRange (unsigned k) (finite s m) ≡ false → number (pos (m / unit * unit)) ≡ numberOf (finite s m)
+made-unsigned k false m w h = ap (λ (n : ℕ). number (pos n)) w
+made-unsigned k true m w h =
+    let l : m / unit ≤ 0 = ltb-false _ _ h in
+    let z : m / unit ≡ 0 = omega arith in
+    let q : m ≡ 0 = sym w ∙ ap (λ (n : ℕ). n * unit) z ∙ zero-mul unit in
+    ap (λ (n : ℕ). number (pos n)) (w ∙ q) ∙ sym (ap (λ (n : ℕ). numberOf (finite true n)) q)
+
+-- in a float format the sign of a zero is kept too
+pub made-float : (f : Format) (x : Exact) → Accepted (float f) x → exactFor (float f) x ≡ x
+made-float f notNumber a = absurd (true≢false (a .some-number))
+made-float f (infinite s) a = infinite-made f s
+made-float f (finite s m) a = finite-made f s m (ltb-false _ _ (a .in-range)) (not-false _ (a .held))
+
+pub made-number : (form : Form) (x : Exact) → Accepted form x → numberOf (exactFor form x) ≡ numberOf x
+made-number (float f) x a = ap numberOf (made-float f x a)
+made-number (unsigned k) notNumber a = absurd (true≢false (a .some-number))
+made-number (unsigned k) (infinite s) a = absurd (true≢false (a .no-infinity))
+made-number (unsigned k) (finite s m) a = made-unsigned k s m (whole-part m (a .no-fraction)) (a .in-range)
+made-number (signed k) notNumber a = absurd (true≢false (a .some-number))
+made-number (signed k) (infinite s) a = absurd (true≢false (a .no-infinity))
+made-number (signed k) (finite s m) a = whole-number s (m / unit) unit ∙ ap (λ (n : ℕ). numberOf (finite s n)) (whole-part m (a .no-fraction))
+
+-- the whole part fits the kind
+pub unsigned-fits : (k : ℕ) (x : Exact) → Accepted (unsigned k) x → magnitudeFor x < 2 ^ k
+unsigned-fits k notNumber a = absurd (true≢false (a .some-number))
+unsigned-fits k (infinite s) a = absurd (true≢false (a .no-infinity))
+unsigned-fits k (finite true m) a = let l : m / unit ≤ 0 = ltb-false _ _ (a .in-range) in omega (arith, pow-pos k)
+unsigned-fits k (finite false m) a = let l : m / unit ≤ 2 ^ k - 1 = ltb-false _ _ (a .in-range) in omega (arith, pow-pos k)
+
+minus-fits : (half n : ℕ) → 0 < half → n ≤ half → mag (signedOf true n) < half
+minus-fits half zero z h = z
+minus-fits half (suc n) z h = h
+
+pub signed-fits : (k : ℕ) (x : Exact) → Accepted (signed k) x → mag (signedOf (signFor x) (magnitudeFor x)) < 2 ^ (k - 1)
+signed-fits k notNumber a = absurd (true≢false (a .some-number))
+signed-fits k (infinite s) a = absurd (true≢false (a .no-infinity))
+signed-fits k (finite true m) a = minus-fits (2 ^ (k - 1)) (m / unit) (pow-pos (k - 1)) (ltb-false _ _ (a .in-range))
+signed-fits k (finite false m) a = let l : m / unit ≤ 2 ^ (k - 1) - 1 = ltb-false _ _ (a .in-range) in omega (arith, pow-pos (k - 1))
+
+-- the pattern has the format's bits
+pub pattern-small : (f : Format) (x : Exact) → Accepted (float f) x → patternFor f x < 2 * signOf (fractionOf f) (exponentOf f)
+pattern-small f notNumber a = absurd (true≢false (a .some-number))
+pattern-small f (infinite s) a = made-small f s (infOf (fractionOf f) (exponentOf f)) (inf-range f .1)
+pattern-small f (finite s m) a = made-small f s (encodeOf f m) (omega (arith, inf-range f .1, encode-below f m (ltb-false _ _ (a .in-range)) (not-false _ (a .held))))
+
+-- ---- some value has the number: accepted
+
+module _ (form : Form) (s : Bool) (m : ℕ) where
+  -- for an integer form there is no fraction when the magnitude is a whole number of units
+  no-fraction-in : (n : ℕ) → m ≡ n * unit → (hasFraction (finite s m) && isInteger form) ≡ false
+  no-fraction-in n q = ap (λ (t : Bool). not t && isInteger form) (eq-eqb _ _ (ap (λ (x : ℕ). x % unit) q ∙ mul-mod-left n unit))
+
+whole-units : (m n : ℕ) → m ≡ n * unit → m / unit ≡ n
+whole-units m n q = ap (λ (x : ℕ). x / unit) q ∙ mul-div-cancel n unit-pos
+
+inside-unsigned : (k : ℕ) (s : Bool) (m n : ℕ) → n < 2 ^ k → number (pos (n * unit)) ≡ numberOf (finite s m) → m ≡ n * unit → outOfRange (unsigned k) (finite s m) ≡ false
+inside-unsigned k false m n l h q = let w = whole-units m n q in le-ltb (2 ^ k - 1) (m / unit) (omega arith)
+inside-unsigned k true m n l h q =
+    let z : m ≡ 0 = negated m (n * unit) cc in
+    let w : m / unit ≡ 0 = ap (λ (x : ℕ). x / unit) z ∙ zero-div unit in
+    le-ltb 0 (m / unit) (omega arith)
+
+-- a number is neither none nor an infinity
+only-finite : {A : Type 0} (z : ℤ) (t : Bool) → (number z ≡ none) ⊎ (number z ≡ infinityOf t) → A
+only-finite z t (inl h) = absurd (let q : _≡_ {A = ℕ} 0 1 = cc in omega arith)
+only-finite z true (inr h) = absurd (let q : _≡_ {A = ℕ} 0 1 = cc in omega arith)
+only-finite z false (inr h) = absurd (let q : _≡_ {A = ℕ} 0 1 = cc in omega arith)
+
+pub accepts-unsigned : (k n : ℕ) (x : Exact) → n < 2 ^ k → numberOf (times unit (wholeOf (pos n))) ≡ numberOf x → Accepted (unsigned k) x
+accepts-unsigned k n notNumber l h = only-finite _ true (inl h)
+accepts-unsigned k n (infinite t) l h = only-finite _ t (inr h)
+accepts-unsigned k n (finite s m) l h =
+    let q : m ≡ n * unit = sym (signed-mag s m (pos (n * unit)) h) in
+    record { some-number = refl; no-infinity = refl; no-fraction = no-fraction-in (unsigned k) s m n q; in-range = inside-unsigned k s m n l h q; held = refl }
+
+-- an integer as a sign and a magnitude
+whole-signed : (z : ℤ) (u : ℕ) → numberOf (times u (wholeOf z)) ≡ number (signedOf (isNegative z) (natAbs z * u))
+whole-signed (pos n) u = refl
+whole-signed (negsuc n) u = refl
+
+inside-signed : (half : ℕ) (z : ℤ) (s : Bool) (m : ℕ) → mag z < half → number (signedOf (isNegative z) (natAbs z * unit)) ≡ numberOf (finite s m) → m ≡ natAbs z * unit
+    → outside half (half - 1) s (m / unit) ≡ false
+inside-signed half (pos n) false m l h q = let w = whole-units m n q in le-ltb (half - 1) (m / unit) (omega arith)
+inside-signed half (pos n) true m l h q = let w = whole-units m n q in le-ltb half (m / unit) (omega arith)
+inside-signed half (negsuc n) true m l h q = let w = whole-units m (suc n) q in le-ltb half (m / unit) (omega arith)
+inside-signed half (negsuc n) false m l h q =
+    let z : suc n * unit ≡ 0 = negated (suc n * unit) m cc in
+    let b : 1 * unit ≤ suc n * unit = mul-le-mul-right unit (omega arith) in
+    absurd (omega (arith, unit-pos))
+
+pub accepts-signed : (k : ℕ) (z : ℤ) (x : Exact) → mag z < 2 ^ (k - 1) → numberOf (times unit (wholeOf z)) ≡ numberOf x → Accepted (signed k) x
+accepts-signed k z notNumber l h = only-finite _ true (inl (sym (whole-signed z unit) ∙ h))
+accepts-signed k z (infinite t) l h = only-finite _ t (inr (sym (whole-signed z unit) ∙ h))
+accepts-signed k z (finite s m) l h =
+    let g = sym (whole-signed z unit) ∙ h in
+    let q : m ≡ natAbs z * unit = sym (signed-mag s m (signedOf (isNegative z) (natAbs z * unit)) g) ∙ abs-signed (isNegative z) (natAbs z * unit) in
+    record { some-number = refl; no-infinity = refl; no-fraction = no-fraction-in (signed k) s m (natAbs z) q; in-range = inside-signed (2 ^ (k - 1)) z s m l g q; held = refl }
+
+-- the magnitude is that of the abs of a finite pattern
+finite-magnitude : (f : Format) (c : ℕ) (s : Bool) (m : ℕ) → numberOf (times (stepOf f) (patternOf (fractionOf f) (exponentOf f) c)) ≡ numberOf (finite s m)
+    → (absOf (fractionOf f) (exponentOf f) c < infOf (fractionOf f) (exponentOf f)) × (m ≡ magOf (fractionOf f) (absOf (fractionOf f) (exponentOf f) c) * stepOf f)
+finite-magnitude f c s m h = elim (three-ways (absOf (fractionOf f) (exponentOf f) c) (infOf (fractionOf f) (exponentOf f))) [
+  | inl l ↦
+      let n = magOf (fractionOf f) (absOf (fractionOf f) (exponentOf f) c) * stepOf f in
+      let t = negativeOf (fractionOf f) (exponentOf f) c in
+      let g : number (signedOf t n) ≡ numberOf (finite s m) = ap (λ (x : Exact). numberOf (times (stepOf f) x)) (sym (pattern-finite (fractionOf f) (exponentOf f) c l)) ∙ h in
+      (l, sym (signed-mag s m (signedOf t n) g) ∙ abs-signed t n)
+  | inr (inl e) ↦ only-finite (signedOf s m) (negativeOf (fractionOf f) (exponentOf f) c) (inr (sym h ∙ ap (λ (x : Exact). numberOf (times (stepOf f) x)) (pattern-infinite (fractionOf f) (exponentOf f) c e)))
+  | inr (inr g) ↦ only-finite (signedOf s m) true (inl (sym h ∙ ap (λ (x : Exact). numberOf (times (stepOf f) x)) (pattern-nan (fractionOf f) (exponentOf f) c g)))
+]
+
+pub accepts-float : (f : Format) (c : ℕ) (x : Exact) → isNone x ≡ false → numberOf (times (stepOf f) (patternOf (fractionOf f) (exponentOf f) c)) ≡ numberOf x → Accepted (float f) x
+accepts-float f c notNumber t h = absurd (true≢false t)
+accepts-float f c (infinite s) t h = record { some-number = refl; no-infinity = refl; no-fraction = refl; in-range = refl; held = refl }
+accepts-float f c (finite s m) t h =
+    let x = absOf (fractionOf f) (exponentOf f) c in
+    let g = finite-magnitude f c s m h in
+    let top : magOf (fractionOf f) x ≤ largestOf (fractionOf f) (exponentOf f) =
+    subst (λ (n : ℕ). magOf (fractionOf f) x ≤ n) (mag-largest (fractionOf f) (exponentOf f) (two-or-more f)) (mag-grows (fractionOf f) x (infOf (fractionOf f) (exponentOf f) - 1) (omega (arith, g .0))) in
+    let b : m ≤ largestOf (fractionOf f) (exponentOf f) * stepOf f = subst (λ (n : ℕ). n ≤ largestOf (fractionOf f) (exponentOf f) * stepOf f) (sym (g .1)) (mul-le-mul-right (stepOf f) top) in
+    record {
+      some-number = refl;
+      no-infinity = refl;
+      no-fraction = and-false (hasFraction (finite s m));
+      in-range = le-ltb (largestOf (fractionOf f) (exponentOf f) * stepOf f) m b;
+      held = ap not (ap (heldIn f) (g .1) ∙ held-of f x);
+    }
+  where
+    and-false : (b : Bool) → (b && false) ≡ false
+    and-false true = refl
+    and-false false = refl

@@ -1,0 +1,187 @@
+-- To another kind a value converts exactly when it has a number and some value of that kind has the same number; and then the answer has it.
+use mathlib.Core.Path.{_≡_, refl, sym, _∙_, ap, subst}
+use mathlib.Core.Bool.{Bool, true, false, cond}
+use mathlib.Core.Logic.{inl, inr}
+use Prim.Native.Nat.{ℕ, _-_, _*_, _%_, _^_, _<_}
+use native.Mathlib.Nat.{mod-lt, mod-eq-of-lt}
+use native.Mathlib.Omega.{arith}
+use borrow.Author.Tests.{eq-eqb, ne-eqb}
+use lib.IntN.{ℤ, pos, negsuc}
+use lib.Signed.{mag}
+use lib.Pow.{pow-pos}
+use lib.Ieee.{Format, binary32, binary64, ofBits, top}
+use Rattle.float.specs.Format.{fractionOf, exponentOf, signOf}
+use Rattle.float.specs.Number.{Exact, notNumber, infinite, finite, times, none, signedOf}
+use Rattle.float.specs.Number as float-number
+use Rattle.float.specs.Order.{patternOf}
+use Rattle.float.proofs.Naturals.{lt-or-ge}
+use Rattle.value.specs.declared.Kind.{Kind}
+use Rattle.value.specs.declared.Kind.the-variants as kind
+use Rattle.value.specs.declared.Value.{Value}
+use Rattle.value.specs.declared.Value.the-variants.{U8, U16, U32, U64, I8, I16, I32, I64}
+use Rattle.value.specs.Kinds.{kindOf, kindNumber, Form, float, formOf}
+use Rattle.value.specs.Meaning.{exactOf, numberOf, bitsOf, stepOf, twosOf, fromTwos, f32Value, f64Value, valueOf, wordFor, floatBits}
+use Rattle.value.specs.Outcome.{Outcome, gives, refuseIf}
+use Rattle.value.proofs.FloatBits.{bits-pattern}
+use Rattle.value.proofs.TwosComplement.{from-low, from-high, from-twos}
+use Rattle.convert.specs.Convert.{isNone, magnitudeFor, signFor, patternFor, madeIn, intoOf, convertOf}
+use Rattle.convert.proofs.Accepted.{Accepted, exactFor, made-number, made-float, unsigned-fits, signed-fits, pattern-small, accepts-unsigned, accepts-signed, accepts-float}
+
+-- ---- the made value
+
+made-kind : (to : Kind) (x : Exact) → kindOf (madeIn to x) ≡ to
+unfolding madeIn
+made-kind kind.U8 x = refl
+made-kind kind.U16 x = refl
+made-kind kind.U32 x = refl
+made-kind kind.U64 x = refl
+made-kind kind.I8 x = refl
+made-kind kind.I16 x = refl
+made-kind kind.I32 x = refl
+made-kind kind.I64 x = refl
+made-kind kind.F32 x = refl
+made-kind kind.F64 x = refl
+
+sign-top : (f : Format) → 2 * signOf (fractionOf f) (exponentOf f) ≡ 2 * top f
+sign-top binary32 = refl
+sign-top binary64 = refl
+
+float-bits : (f : Format) (x : Exact) → Accepted (float f) x → floatBits f (ofBits f (patternFor f x)) (wordFor (fractionOf f) (exponentOf f) (patternFor f x)) ≡ patternFor f x
+float-bits f x a = bits-pattern f (patternFor f x) (subst (λ (n : ℕ). patternFor f x < n) (sign-top f) (pattern-small f x a))
+
+made-exact : (to : Kind) (x : Exact) → Accepted (formOf to) x → exactOf (madeIn to x) ≡ exactFor (formOf to) x
+unfolding madeIn
+made-exact kind.U8 x a = refl
+made-exact kind.U16 x a = refl
+made-exact kind.U32 x a = refl
+made-exact kind.U64 x a = refl
+made-exact kind.I8 x a = refl
+made-exact kind.I16 x a = refl
+made-exact kind.I32 x a = refl
+made-exact kind.I64 x a = refl
+made-exact kind.F32 x a = ap (λ (b : ℕ). times (stepOf binary32) (patternOf 23 8 b)) (float-bits binary32 x a)
+made-exact kind.F64 x a = ap (λ (b : ℕ). times (stepOf binary64) (patternOf 52 11 b)) (float-bits binary64 x a)
+
+-- the made value is that of its own bits: it lies in the kind's range
+natural-of : (k n : ℕ) → n < 2 ^ k → n ≡ n % 2 ^ k
+natural-of k n h = sym (mod-eq-of-lt h)
+
+twos-fits : (half : ℕ) (z : ℤ) → mag z < half → twosOf (2 * half - 1) z < 2 * half
+twos-fits half (pos n) h = omega arith
+twos-fits half (negsuc n) h = omega arith
+
+integer-of : (half : ℕ) (z : ℤ) → mag z < half → z ≡ fromTwos half (twosOf (2 * half - 1) z % (2 * half))
+integer-of half z h = sym (ap (fromTwos half) (mod-eq-of-lt (twos-fits half z h)) ∙ from-twos half z h)
+
+float-of : (f : Format) (x : Exact) → Accepted (float f) x
+    → patternFor f x ≡ floatBits f (ofBits f (patternFor f x)) (wordFor (fractionOf f) (exponentOf f) (patternFor f x)) % (2 * signOf (fractionOf f) (exponentOf f))
+float-of f x a = sym (ap (λ (n : ℕ). n % (2 * signOf (fractionOf f) (exponentOf f))) (float-bits f x a) ∙ mod-eq-of-lt (pattern-small f x a))
+
+made-of-bits : (to : Kind) (x : Exact) → Accepted (formOf to) x → madeIn to x ≡ valueOf to (bitsOf (madeIn to x))
+unfolding madeIn valueOf
+made-of-bits kind.U8 x a = ap U8 (natural-of 8 (magnitudeFor x) (unsigned-fits 8 x a))
+made-of-bits kind.U16 x a = ap U16 (natural-of 16 (magnitudeFor x) (unsigned-fits 16 x a))
+made-of-bits kind.U32 x a = ap U32 (natural-of 32 (magnitudeFor x) (unsigned-fits 32 x a))
+made-of-bits kind.U64 x a = ap U64 (natural-of 64 (magnitudeFor x) (unsigned-fits 64 x a))
+made-of-bits kind.I8 x a = ap I8 (integer-of (2 ^ 7) (signedOf (signFor x) (magnitudeFor x)) (signed-fits 8 x a))
+made-of-bits kind.I16 x a = ap I16 (integer-of (2 ^ 15) (signedOf (signFor x) (magnitudeFor x)) (signed-fits 16 x a))
+made-of-bits kind.I32 x a = ap I32 (integer-of (2 ^ 31) (signedOf (signFor x) (magnitudeFor x)) (signed-fits 32 x a))
+made-of-bits kind.I64 x a = ap I64 (integer-of (2 ^ 63) (signedOf (signFor x) (magnitudeFor x)) (signed-fits 64 x a))
+made-of-bits kind.F32 x a = ap f32Value (float-of binary32 x a)
+made-of-bits kind.F64 x a = ap f64Value (float-of binary64 x a)
+
+-- ---- a value of the kind that has the number
+
+-- the low n bits, read in two's complement, fit
+from-fits : (half n : ℕ) → n < 2 * half → mag (fromTwos half n) < half
+from-fits half n h = elim (lt-or-ge n half) [
+  | inl l ↦ subst (λ (z : ℤ). mag z < half) (from-low half n l) l
+  | inr g ↦ let b : 2 * half - 1 - n < half = omega arith in subst (λ (z : ℤ). mag z < half) (from-high half n g refl) b
+]
+
+low-bits : (b n : ℕ) → b % 2 ^ n < 2 ^ n
+low-bits b n = mod-lt b (pow-pos n)
+
+accepts : (to : Kind) (b : ℕ) (x : Exact) → isNone x ≡ false → numberOf (valueOf to b) ≡ float-number.numberOf x → Accepted (formOf to) x
+unfolding valueOf
+accepts kind.U8 b x t h = accepts-unsigned 8 (b % 2 ^ 8) x (low-bits b 8) h
+accepts kind.U16 b x t h = accepts-unsigned 16 (b % 2 ^ 16) x (low-bits b 16) h
+accepts kind.U32 b x t h = accepts-unsigned 32 (b % 2 ^ 32) x (low-bits b 32) h
+accepts kind.U64 b x t h = accepts-unsigned 64 (b % 2 ^ 64) x (low-bits b 64) h
+accepts kind.I8 b x t h = accepts-signed 8 (fromTwos (2 ^ 7) (b % 2 ^ 8)) x (from-fits (2 ^ 7) (b % 2 ^ 8) (low-bits b 8)) h
+accepts kind.I16 b x t h = accepts-signed 16 (fromTwos (2 ^ 15) (b % 2 ^ 16)) x (from-fits (2 ^ 15) (b % 2 ^ 16) (low-bits b 16)) h
+accepts kind.I32 b x t h = accepts-signed 32 (fromTwos (2 ^ 31) (b % 2 ^ 32)) x (from-fits (2 ^ 31) (b % 2 ^ 32) (low-bits b 32)) h
+accepts kind.I64 b x t h = accepts-signed 64 (fromTwos (2 ^ 63) (b % 2 ^ 64)) x (from-fits (2 ^ 63) (b % 2 ^ 64) (low-bits b 64)) h
+accepts kind.F32 b x t h = accepts-float binary32 _ x t h
+accepts kind.F64 b x t h = accepts-float binary64 _ x t h
+
+-- ---- the five rules
+
+refuse-passes : {A : Type 0} (t : Bool) (n p : ℕ) (next : Outcome A) (a : A) → refuseIf t n p next ≡ gives a → (t ≡ false) × (next ≡ gives a)
+refuse-passes true n p next a h = absurd (let q : _≡_ {A = ℕ} 0 1 = cc in omega arith)
+refuse-passes false n p next a h = (refl, h)
+
+into-accepts : (to : Kind) (x : Exact) (w : Value) → intoOf to x ≡ gives w → Accepted (formOf to) x × (madeIn to x ≡ w)
+unfolding intoOf
+into-accepts to x w h =
+    let a = refuse-passes _ _ _ _ w h in
+    let b = refuse-passes _ _ _ _ w (a .1) in
+    let c = refuse-passes _ _ _ _ w (b .1) in
+    let d = refuse-passes _ _ _ _ w (c .1) in
+    let e = refuse-passes _ _ _ _ w (d .1) in
+    (record { some-number = a .0; no-infinity = b .0; no-fraction = c .0; in-range = d .0; held = e .0 }, cc)
+
+into-gives : (to : Kind) (x : Exact) → Accepted (formOf to) x → intoOf to x ≡ gives (madeIn to x)
+unfolding intoOf
+into-gives to x a = simp (a .some-number, a .no-infinity, a .no-fraction, a .in-range, a .held)
+
+other-kind : (v : Value) (to : Kind) → (kindNumber (kindOf v) ≡ kindNumber to → ⊥) → convertOf v to ≡ intoOf to (exactOf v)
+unfolding convertOf
+other-kind v to d = ap (λ (t : Bool). cond t (gives v) (intoOf to (exactOf v))) (ne-eqb _ _ d)
+
+none-is : (x : Exact) → (float-number.numberOf x ≡ none → ⊥) → isNone x ≡ false
+none-is notNumber h = absurd (h refl)
+none-is (infinite s) h = refl
+none-is (finite s m) h = refl
+
+is-none : (x : Exact) → isNone x ≡ false → float-number.numberOf x ≡ none → ⊥
+is-none notNumber t h = let q : _≡_ {A = ℕ} 0 1 = cc in omega arith
+is-none (infinite true) t h = let q : _≡_ {A = ℕ} 0 1 = cc in omega arith
+is-none (infinite false) t h = let q : _≡_ {A = ℕ} 0 1 = cc in omega arith
+is-none (finite s m) t h = let q : _≡_ {A = ℕ} 0 1 = cc in omega arith
+
+-- ---- when a value converts
+
+-- the same kind: the same value
+pub same-kind : (v : Value) → convertOf v (kindOf v) ≡ gives v
+unfolding convertOf
+same-kind v = ap (λ (t : Bool). cond t (gives v) (intoOf (kindOf v) (exactOf v))) (eq-eqb (kindNumber (kindOf v)) (kindNumber (kindOf v)) refl)
+
+module _ (v : Value) (to : Kind) (other : kindNumber (kindOf v) ≡ kindNumber to → ⊥) where
+  -- an answer has a number; it is the value of some bits of the kind, and has that number
+  pub sound : (w : Value) → convertOf v to ≡ gives w → (numberOf v ≡ none → ⊥) × (kindOf w ≡ to) × (valueOf to (bitsOf w) ≡ w) × (numberOf w ≡ numberOf v)
+  sound w h =
+      let a = into-accepts to (exactOf v) w (sym (other-kind v to other) ∙ h) in (
+        is-none (exactOf v) (a .0 .some-number),
+        ap kindOf (sym (a .1)) ∙ made-kind to (exactOf v),
+        subst (λ (u : Value). valueOf to (bitsOf u) ≡ u) (a .1) (sym (made-of-bits to (exactOf v) (a .0))),
+        ap numberOf (sym (a .1)) ∙ ap float-number.numberOf (made-exact to (exactOf v) (a .0)) ∙ made-number (formOf to) (exactOf v) (a .0),
+      )
+
+  -- where some bits of the kind have the number, there is an answer
+  pub complete : (b : ℕ) → (numberOf v ≡ none → ⊥) → numberOf (valueOf to b) ≡ numberOf v → convertOf v to ≡ gives (madeIn to (exactOf v))
+  complete b n h = other-kind v to other ∙ into-gives to (exactOf v) (accepts to b (exactOf v) (none-is (exactOf v) n) h)
+
+  -- the two as one claim
+  pub exactly : (((w : Value) × (convertOf v to ≡ gives w)) → (numberOf v ≡ none → ⊥) × ((b : ℕ) × (numberOf (valueOf to b) ≡ numberOf v)))
+      × ((numberOf v ≡ none → ⊥) × ((b : ℕ) × (numberOf (valueOf to b) ≡ numberOf v)) → (w : Value) × (convertOf v to ≡ gives w))
+  exactly = (
+    λ given. let s = sound (given .0) (given .1) in (s .0, (bitsOf (given .0), ap numberOf (s .2) ∙ s .3)),
+    λ has. (madeIn to (exactOf v), complete (has .1 .0) (has .0) (has .1 .1)),
+  )
+
+  -- to a float kind the sign of a zero is kept too
+  pub kept : (f : Format) → formOf to ≡ float f → (w : Value) → convertOf v to ≡ gives w → exactOf w ≡ exactOf v
+  kept f q w h =
+      let a = into-accepts to (exactOf v) w (sym (other-kind v to other) ∙ h) in
+      ap exactOf (sym (a .1)) ∙ made-exact to (exactOf v) (a .0) ∙ ap (λ (g : Form). exactFor g (exactOf v)) q ∙ made-float f (exactOf v) (subst (λ (g : Form). Accepted g (exactOf v)) q (a .0))
