@@ -38,15 +38,6 @@ module _ (l : List ℕ) (p : ℕ) where
   unfolding after
   first-parted h d = rw (lt-ltb p (length l) (omega arith), part-is l (p + 1), add-one)
 
--- ---- how many words there are
-
-module _ (rest : List ℕ) (p : ℕ) (q : p ≡ placeOf 32 rest) where
-  pub count-last : p ≡ length rest → length (wordsOf rest) ≡ 1
-  count-last e = ap length (first-word rest p q ∙ ap (λ ws. take p rest ∷ ws) (first-alone rest p e))
-
-  pub count-next : p ≤ length rest → (p ≡ length rest → ⊥) → length (wordsOf rest) ≡ suc (length (wordsOf (take (length rest - (p + 1)) (drop (p + 1) rest))))
-  count-next l d = ap length (first-word rest p q ∙ ap (λ ws. take p rest ∷ ws) (first-parted rest p l d))
-
 -- ---- the number of a word
 
 among-here : (s w : List ℕ) (ws : List (List ℕ)) → sameBytes s w ≡ true → numberAmong s (w ∷ ws) ≡ 0

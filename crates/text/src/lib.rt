@@ -14,7 +14,6 @@ pub use words::after;
 pub use words::before;
 pub use words::nth_word;
 pub use words::place_of;
-pub use words::word_count;
 pub use words::word_number;
 
 // The value of a hex digit.

@@ -74,22 +74,6 @@ pub fn word_number(s: &[u8], words: &[u8]) -> usize
     }
 }
 
-// How many words a list has.
-pub fn word_count(words: &[u8]) -> usize
-    ensures { λ r. ⌜ r ≡ length (wordsOf (now (words .entry))) ⌝ }
-{
-    let mut rest = words;
-    let mut n = 0;
-    loop {
-        let end = place_of(b' ', rest);
-        n += 1;
-        if end == rest.len() {
-            return n;
-        }
-        rest = &rest[end + 1..];
-    }
-}
-
 // The nth of the words of a list, from 0, or the empty word.
 pub fn nth_word<'a>(words: &'a [u8], n: usize) -> &'a [u8]
     ensures { λ r. ⌜ now r ≡ nthOf n (wordsOf (now (words .entry))) ⌝ }

@@ -1,9 +1,9 @@
 -- The operands of a case line: the digits of a value, one value, two values.
-use Prim.Native.Nat.{ℕ, _+_}
-use mathlib.Core.Bool.{Bool, cond}
+use Prim.Native.Nat.{ℕ}
+use mathlib.Core.Bool.{cond}
 use mathlib.Core.List.{List}
-use lib.Dec.{eqb, ltb}
-use lib.ListN.{length, take, drop}
+use lib.Dec.{eqb}
+use lib.ListN.{length}
 use Rattle.value.specs.declared.Kind.{Kind}
 use Rattle.value.specs.declared.KindFound.{KindFound}
 use Rattle.value.specs.declared.KindFound.the-variants as kind
@@ -12,7 +12,7 @@ use Rattle.text.specs.declared.Hex.{Hex}
 use Rattle.text.specs.declared.Hex.the-variants as hex
 use Rattle.text.specs.Digits.{hexOf}
 use Rattle.text.specs.Names.{kindNamed, digitsOf}
-use Rattle.text.specs.Words.{placeOf, wordsOf, nthOf}
+use Rattle.text.specs.Words.{beforeOf, afterOf}
 use Rattle.vectors.specs.declared.operands.OneValue.{OneValue}
 use Rattle.vectors.specs.declared.operands.OneValue.the-variants as one
 use Rattle.vectors.specs.declared.operands.TwoValues.{TwoValues}
@@ -27,20 +27,20 @@ withBits k hex.Malformed = one.Malformed
 unfoldable pub withDigits : Kind → List ℕ → OneValue
 withDigits k digits = cond (eqb (length digits) (digitsOf k)) (withBits k (hexOf digits)) one.Malformed
 
--- the value with these digits of the kind that was found
+-- the same for a kind that was looked for
 abbrev pub withKind : KindFound → List ℕ → OneValue
 withKind (kind.Is k) digits = withDigits k digits
 withKind kind.Nothing digits = one.Malformed
 
 -- a kind's name, a colon, digits
 unfoldable pub valueIn : List ℕ → OneValue
-valueIn s = cond (ltb (placeOf 58 s) (length s)) (withKind (kindNamed (take (placeOf 58 s) s)) (drop (placeOf 58 s + 1) s)) one.Malformed
+valueIn s = withKind (kindNamed (beforeOf 58 s)) (afterOf 58 s)
 
 abbrev pub both : OneValue → OneValue → TwoValues
 both (one.Is a) (one.Is b) = two.Are a b
 both (one.Is a) one.Malformed = two.Malformed
 both one.Malformed b = two.Malformed
 
--- two words, each a value
+-- a value, a space, a value
 unfoldable pub valuesIn : List ℕ → TwoValues
-valuesIn s = cond (eqb (length (wordsOf s)) 2) (both (valueIn (nthOf 0 (wordsOf s))) (valueIn (nthOf 1 (wordsOf s)))) two.Malformed
+valuesIn s = both (valueIn (beforeOf 32 s)) (valueIn (afterOf 32 s))

@@ -1,6 +1,8 @@
-// Answers that are values, and their text.
-ghost use Rattle.io.specs.Counts.{Counts};
+// Answers other than rows, and their text.
+ghost use Prim.Native.Nat.{_≤_};
+use crate::output::Buffer;
 use crate::output::put;
+use crate::output::put_byte;
 use crate::output::put_decimal;
 use crate::output::put_hex;
 use float::Class;
@@ -23,71 +25,58 @@ pub enum Answer {
     Malformed,
 }
 
-// An answer and the end of its line.
-pub(crate) fn put_answer(output: &mut [u8], used: usize, a: Answer) -> usize
-    requires { ⌜ Counts used (now output) ⌝ }
-    ensures { λ r. ⌜ Counts r (now (output .exit)) ⌝ }
-{
-    let said = put_text(output, used, a);
-    put(output, said, b"\n")
-}
-
-fn put_text(output: &mut [u8], used: usize, a: Answer) -> usize
-    requires { ⌜ Counts used (now output) ⌝ }
-    ensures { λ r. ⌜ Counts r (now (output .exit)) ⌝ }
+pub(crate) fn put_answer(output: &mut Buffer, used: usize, a: Answer) -> usize
+    requires { ⌜ used ≤ 65536 ⌝ }
+    ensures { λ r. ⌜ r ≤ 65536 ⌝ }
 {
     match a {
-        Answer::Class(c) => put_class(output, used, c),
-        Answer::Order(o) => put_order(output, used, o),
-        Answer::Test(yes) => put_test(output, used, yes),
         Answer::Value(v) => put_value(output, used, v),
         Answer::Refused(f) => put_refusal(output, used, f),
-        Answer::Malformed => put(output, used, b"malformed"),
+        _ => put_word(output, used, word_for(a)),
     }
 }
 
-fn put_class(output: &mut [u8], used: usize, c: Class) -> usize
-    requires { ⌜ Counts used (now output) ⌝ }
-    ensures { λ r. ⌜ Counts r (now (output .exit)) ⌝ }
+// Words by number: classes, orders, the answers of tests, and `malformed`.
+fn put_word(output: &mut Buffer, used: usize, n: usize) -> usize
+    requires { ⌜ used ≤ 65536 ⌝ }
+    ensures { λ r. ⌜ r ≤ 65536 ⌝ }
 {
-    let n = match c {
+    let words = b"zero subnormal normal infinite nan Less Equal Greater Unordered no yes malformed";
+    put(output, used, nth_word(words, n))
+}
+
+fn word_for(a: Answer) -> usize {
+    match a {
+        Answer::Class(c) => class_word(c),
+        Answer::Order(o) => order_word(o),
+        Answer::Test(yes) => if yes { 10 } else { 9 },
+        _ => 11,
+    }
+}
+
+fn class_word(c: Class) -> usize {
+    match c {
         Class::Zero => 0,
         Class::Subnormal => 1,
         Class::Normal => 2,
         Class::Infinite => 3,
         Class::Nan => 4,
-    };
-    put(
-        output,
-        used,
-        nth_word(b"zero subnormal normal infinite nan", n),
-    )
+    }
 }
 
-fn put_order(output: &mut [u8], used: usize, o: Order) -> usize
-    requires { ⌜ Counts used (now output) ⌝ }
-    ensures { λ r. ⌜ Counts r (now (output .exit)) ⌝ }
-{
-    let n = match o {
-        Order::Less => 0,
-        Order::Equal => 1,
-        Order::Greater => 2,
-        Order::Unordered => 3,
-    };
-    put(output, used, nth_word(b"Less Equal Greater Unordered", n))
-}
-
-fn put_test(output: &mut [u8], used: usize, yes: bool) -> usize
-    requires { ⌜ Counts used (now output) ⌝ }
-    ensures { λ r. ⌜ Counts r (now (output .exit)) ⌝ }
-{
-    put(output, used, nth_word(b"no yes", yes as usize))
+fn order_word(o: Order) -> usize {
+    match o {
+        Order::Less => 5,
+        Order::Equal => 6,
+        Order::Greater => 7,
+        Order::Unordered => 8,
+    }
 }
 
 // KIND:HEX, with all digits of the kind.
-fn put_value(output: &mut [u8], used: usize, v: Value) -> usize
-    requires { ⌜ Counts used (now output) ⌝ }
-    ensures { λ r. ⌜ Counts r (now (output .exit)) ⌝ }
+fn put_value(output: &mut Buffer, used: usize, v: Value) -> usize
+    requires { ⌜ used ≤ 65536 ⌝ }
+    ensures { λ r. ⌜ r ≤ 65536 ⌝ }
 {
     let kind = kind_of(v);
     let named = put(
@@ -95,16 +84,16 @@ fn put_value(output: &mut [u8], used: usize, v: Value) -> usize
         used,
         nth_word(&KIND_NAMES, kind_number(kind) as usize),
     );
-    let parted = put(output, named, b":");
+    let parted = put_byte(output, named, b':');
     put_hex(output, parted, bits_of(v), digits_of(kind))
 }
 
-fn put_refusal(output: &mut [u8], used: usize, f: Refusal) -> usize
-    requires { ⌜ Counts used (now output) ⌝ }
-    ensures { λ r. ⌜ Counts r (now (output .exit)) ⌝ }
+fn put_refusal(output: &mut Buffer, used: usize, f: Refusal) -> usize
+    requires { ⌜ used ≤ 65536 ⌝ }
+    ensures { λ r. ⌜ r ≤ 65536 ⌝ }
 {
     let begun = put(output, used, b"refused ");
     let numbered = put_decimal(output, begun, f.number as u64);
-    let parted = put(output, numbered, b" ");
+    let parted = put_byte(output, numbered, b' ');
     put_decimal(output, parted, f.place as u64)
 }

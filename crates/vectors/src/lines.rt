@@ -1,37 +1,34 @@
 // What a line asks, by its first word, and the answer to it. A new word stands in the list of the function for its operands, with an arm
-// of its own there. A line whose answer is a row is put from the row; every other answer is a value.
-ghost use Rattle.io.specs.Counts.{Counts};
+// of its own there. An answer that is a row is put from the row; every other answer is an `Answer`.
+ghost use Prim.Native.Nat.{_≤_};
 use crate::answers::Answer;
 use crate::answers::put_answer;
 use crate::operands::OneValue;
 use crate::operands::TwoValues;
 use crate::operands::value_in;
 use crate::operands::values_in;
+use crate::output::Buffer;
 use crate::rows::put_row_clamp;
+use crate::samples::Row;
 use cmp::Chosen;
 use cmp::Compared;
 use cmp::Tested;
 use float::class_f32;
 use float::class_f64;
-use text::nth_word;
-use text::place_of;
-use text::word_count;
+use text::after;
+use text::before;
 use text::word_number;
 use value::Value;
 use value::bits_f32;
 use value::bits_f64;
 
-// A word, a space, and the operands that the word takes.
-pub(crate) fn put_reply(output: &mut [u8], used: usize, row: &mut [f32], line: &[u8]) -> usize
-    requires { ⌜ Counts used (now output) ⌝ }
-    ensures { λ r. ⌜ Counts r (now (output .exit)) ⌝ }
+// A line is a word, a space, and the operands that the word takes.
+pub(crate) fn put_reply(output: &mut Buffer, used: usize, row: &mut Row, line: &[u8]) -> usize
+    requires { ⌜ used ≤ 65536 ⌝ }
+    ensures { λ r. ⌜ r ≤ 65536 ⌝ }
 {
-    let space = place_of(b' ', line);
-    if space == line.len() {
-        return put_answer(output, used, Answer::Malformed);
-    }
-    let word = &line[..space];
-    let rest = &line[space + 1..];
+    let word = before(b' ', line);
+    let rest = after(b' ', line);
     match word_number(word, b"rowclamp") {
         0 => put_row_clamp(output, used, row, rest),
         _ => put_answer(output, used, answer_to(word, rest)),
@@ -59,16 +56,10 @@ fn class_line(rest: &[u8]) -> Answer {
 }
 
 fn clamp_line(rest: &[u8]) -> Answer {
-    if word_count(rest) != 3 {
-        return Answer::Malformed;
-    }
-    let OneValue::Is(v) = value_in(nth_word(rest, 0)) else {
+    let OneValue::Is(v) = value_in(before(b' ', rest)) else {
         return Answer::Malformed;
     };
-    let OneValue::Is(lower) = value_in(nth_word(rest, 1)) else {
-        return Answer::Malformed;
-    };
-    let OneValue::Is(upper) = value_in(nth_word(rest, 2)) else {
+    let TwoValues::Are(lower, upper) = values_in(after(b' ', rest)) else {
         return Answer::Malformed;
     };
     chosen(cmp::clamp(v, lower, upper))

@@ -2,12 +2,11 @@
 ghost use mathlib.Core.Path.{_≡_};
 ghost use Rattle.vectors.specs.Operands.{withDigits, valueIn, valuesIn};
 use text::Hex;
+use text::after;
+use text::before;
 use text::digits_of;
 use text::hex_number;
 use text::kind_named;
-use text::nth_word;
-use text::place_of;
-use text::word_count;
 use value::Kind;
 use value::KindFound;
 use value::Value;
@@ -36,31 +35,24 @@ pub(crate) fn with_digits(kind: Kind, digits: &[u8]) -> OneValue
     OneValue::Is(value_of(kind, bits))
 }
 
-// KIND:HEX.
+// KIND:HEX. Where there is no colon there are no digits.
 pub(crate) fn value_in(s: &[u8]) -> OneValue
     ensures { λ r. ⌜ r ≡ valueIn (now (s .entry)) ⌝ }
 {
-    let colon = place_of(b':', s);
-    if colon == s.len() {
-        return OneValue::Malformed;
-    }
-    let KindFound::Is(kind) = kind_named(&s[..colon]) else {
+    let KindFound::Is(kind) = kind_named(before(b':', s)) else {
         return OneValue::Malformed;
     };
-    with_digits(kind, &s[colon + 1..])
+    with_digits(kind, after(b':', s))
 }
 
-// Two values parted by one space.
+// Two values parted by one space. No value holds a space, so a third field makes the second value malformed.
 pub(crate) fn values_in(s: &[u8]) -> TwoValues
     ensures { λ r. ⌜ r ≡ valuesIn (now (s .entry)) ⌝ }
 {
-    if word_count(s) != 2 {
-        return TwoValues::Malformed;
-    }
-    let OneValue::Is(a) = value_in(nth_word(s, 0)) else {
+    let OneValue::Is(a) = value_in(before(b' ', s)) else {
         return TwoValues::Malformed;
     };
-    let OneValue::Is(b) = value_in(nth_word(s, 1)) else {
+    let OneValue::Is(b) = value_in(after(b' ', s)) else {
         return TwoValues::Malformed;
     };
     TwoValues::Are(a, b)

@@ -11,7 +11,9 @@ returns : tie.Need-returns
 returns c = sym (digits-amiss _ _ (c .before .digits-of .ensures) (c .if1 .taken))
 
 -- after the digits
-read : (c : tie.After-hex-number) → withDigits (c .before .before .before .before .args .kind) (c .before .before .before .before .args .digits .now) ≡ withBits (c .before .before .before .before .args .kind) (c .hex-number .result)
+read : (c : tie.After-hex-number) →
+    let args = c .before .before .before .before .args in
+    withDigits (args .kind) (args .digits .now) ≡ withBits (args .kind) (c .hex-number .result)
 read c = digits-all _ _ (c .before .before .digits-of .ensures) (c .before .if1 .left) (c .hex-number .ensures)
 
 returns-2 : tie.Need-returns-2

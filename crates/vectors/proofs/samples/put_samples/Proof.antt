@@ -1,0 +1,29 @@
+-- Each turn puts one sample, and what waits stays within the buffer.
+use Prim.Native.Nat.{_-_, _≤_}
+use borrow.Author.Needs.{needs}
+use lib.ListN.{length}
+use Rattle.vectors.proofs.samples.put_samples.Statement.{statement}
+use Rattle.vectors.proofs.samples.put_samples.Tie as tie
+
+abbrev Inv-loop : tie.InvT-loop
+Inv-loop output₀ used row used₀ i₀ output used' i = used' ≤ 65536
+
+abbrev μ-loop : tie.MeasureT-loop
+μ-loop output₀ used row used₀ i₀ output used' i = length row - i
+
+pub put-samples-spec : {M : Type 1} → statement M
+put-samples-spec =
+    tie.close
+    (tie.spec
+    Inv-loop
+    μ-loop
+    (λ c κs. search needs)
+    (λ c. search needs)
+    (λ c. search needs)
+    (λ c. search needs)
+    (λ c. search needs)
+    (λ c κs. search needs)
+    (λ c. search needs)
+    (λ c. search needs)
+    (λ c. search needs)
+    (λ c. search needs))
