@@ -1,11 +1,11 @@
 -- Choosing and clamping by the orders that were compared.
-use mathlib.Core.Path.{_≡_, refl, sym, _∙_, ap, subst}
-use mathlib.Core.Bool.{Bool, true, false, not, _||_, cond, true≢false}
+use mathlib.Core.Path.{_≡_, refl, sym, _∙_, ap}
+use mathlib.Core.Bool.{Bool, true, false, not, _||_, true≢false}
 use Prim.Native.Nat.{ℕ}
 use native.Mathlib.Omega.{arith}
-use borrow.Author.Tests.{not-true, eq-eqb}
+use borrow.Author.Tests.{eq-eqb}
 use Rattle.float.specs.declared.Order.{Order}
-use Rattle.float.specs.declared.Order.the-variants.{Less, Equal, Greater, Unordered}
+use Rattle.float.specs.declared.Order.the-variants.{Greater, Unordered}
 use Rattle.float.specs.Order.{isLess, isLessOrEqual, isGreater, isUnordered}
 use Rattle.value.specs.declared.Value.{Value}
 use Rattle.value.specs.declared.Refusal.{Refusal}

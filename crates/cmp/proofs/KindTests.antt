@@ -1,10 +1,10 @@
 -- The kinds of two values in a match on both: an arm that names a case of each knows whether they are one.
 use mathlib.Core.Path.{_≡_, refl, sym, _∙_, ap, subst}
-use mathlib.Core.Logic.{_⊎_, inl, inr}
+use mathlib.Core.Logic.{inl, inr}
 use mathlib.Core.List.{List, [], _∷_}
 use mathlib.Core.Bool.{Bool, true, false, not, _&&_}
 use Prim.Native.Nat.{ℕ}
-use lib.Dec.{T, eqb, ltb}
+use lib.Dec.{T, eqb}
 use borrow.Author.Tests.{eq-eqb, eqb-true, not-false}
 use types.Run.{OneOf}
 use denote.Enum.Declared.{tagOf}

@@ -1,5 +1,5 @@
 -- Two values of one kind by the numbers that they stand for: the common unit changes no order.
-use mathlib.Core.Path.{_≡_, refl, sym, _∙_, ap}
+use mathlib.Core.Path.{_≡_, refl, sym, _∙_}
 use Prim.Native.Nat.{ℕ, _^_, _≤_, _<_}
 use lib.Dec.{T, ltb, lit<}
 use lib.Pow.{pow-pos}

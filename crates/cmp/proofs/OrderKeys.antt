@@ -1,7 +1,7 @@
 -- An order in a match: an arm that names several cases knows every test that holds of each of them.
-use mathlib.Core.Path.{_≡_, refl, sym, subst}
+use mathlib.Core.Path.{_≡_, refl, subst}
 use mathlib.Core.List.{List, _∷_}
-use mathlib.Core.Bool.{Bool, true, false}
+use mathlib.Core.Bool.{Bool, true}
 use Prim.Native.Nat.{ℕ, zero, suc}
 use lib.Dec.{T}
 use types.Run.{OneOf}

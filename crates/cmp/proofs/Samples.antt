@@ -8,7 +8,7 @@ use Rattle.float.specs.declared.Order.the-variants.{Less, Equal, Greater, Unord
 use Rattle.float.specs.Order.{isLess, isLessOrEqual, isGreater, isUnordered}
 use Rattle.float.proofs.Operators.{lt-is, le-is}
 use Rattle.float.proofs.Turned.{greater-turned, unordered-nan}
-use Rattle.value.specs.Outcome.{Outcome, gives, refuses}
+use Rattle.value.specs.Outcome.{gives, refuses}
 use Rattle.value.proofs.FloatBits.{differs-nan, same-no-nan, is-false}
 use Rattle.cmp.specs.declared.Range.{Range}
 use Rattle.cmp.specs.Choose.{sampleOrder, rangeOf, sampleOf}

@@ -1,5 +1,5 @@
 -- Choosing between two values, and clamping one value or one sample. RULES.md: Choosing and clamping, Refusals.
-use mathlib.Core.Bool.{Bool, not, _||_, cond}
+use mathlib.Core.Bool.{not, _||_, cond}
 use lib.Ieee.{Float, binary32, toBits, ofBits}
 use Rattle.float.specs.declared.Order.{Order}
 use Rattle.float.specs.Order.{orderOf, isLess, isLessOrEqual, isGreater, isUnordered}

@@ -1,14 +1,14 @@
 -- A pattern that compares Less lies lower in the total order.
 use mathlib.Core.Path.{_≡_, refl, sym, _∙_}
-use mathlib.Core.Logic.{_⊎_, inl, inr}
+use mathlib.Core.Logic.{inl, inr}
 use mathlib.Core.Bool.{Bool, true, false, cond}
-use Prim.Native.Nat.{ℕ, zero, suc, _≤_, _<_}
+use Prim.Native.Nat.{ℕ, zero, suc, _<_}
 use native.Mathlib.Omega.{arith}
-use lib.IntN.{ℤ, pos, negsuc}
+use lib.IntN.{pos, negsuc}
 use Rattle.float.specs.Format.{infOf, negativeOf, absOf, positionOf}
 use Rattle.float.specs.Number.{signedOf}
 use Rattle.float.specs.Order.{orderN, orderZ, compareOf}
-use Rattle.float.specs.declared.Order.the-variants.{Less, Equal, Greater, Unordered}
+use Rattle.float.specs.declared.Order.the-variants.{Less}
 use Rattle.float.proofs.Naturals.{lt-or-ge, three-ways, order-equal, order-greater}
 use Rattle.float.proofs.Comparing.{by-sign, compare-nan-left, compare-nan-right, compare-signed}
 

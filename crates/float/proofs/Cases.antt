@@ -1,10 +1,10 @@
 -- Marked cases 1 to 4 (RULES.md: Marked cases), by computing the definitions.
 use mathlib.Core.Path.{_≡_, refl}
-use lib.IntN.{pos, negsuc}
+use lib.IntN.{pos}
 use Rattle.float.specs.Format.{absOf, classOf, magOf, scaledOf, positionOf}
 use Rattle.float.specs.Order.{orderZ, patternOf, compareOf}
 use Rattle.float.specs.declared.Class.the-variants.{Subnormal, Normal, Infinite, Nan}
-use Rattle.float.specs.declared.Order.the-variants.{Less, Equal, Greater, Unordered}
+use Rattle.float.specs.declared.Order.the-variants.{Less, Equal, Unordered}
 
 -- the two zeros
 case-1 : (compareOf 23 8 0x0000_0000 0x8000_0000 ≡ Equal) × (orderZ (positionOf 23 8 0x8000_0000) (positionOf 23 8 0x0000_0000) ≡ Less)

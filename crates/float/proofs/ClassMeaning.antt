@@ -1,11 +1,11 @@
 -- Class by class: the tests that pick it, and what its patterns stand for. A finite pattern's number is its scaled number.
 use mathlib.Core.Path.{_≡_, refl, sym, _∙_, ap, subst}
 use mathlib.Core.Bool.{Bool, true, false, cond}
-use Prim.Native.Nat.{ℕ, zero, suc, _+_, _-_, _^_, _≤_, _<_}
+use Prim.Native.Nat.{ℕ, _-_, _^_, _≤_, _<_}
 use native.Mathlib.Omega.{arith}
 use borrow.Author.Tests.{ltb-true, ltb-false, eqb-true, eqb-false, lt-ltb, le-ltb, eq-eqb, ne-eqb}
 use lib.Dec.{ltb, eqb}
-use lib.IntN.{ℤ, pos}
+use lib.IntN.{pos}
 use Rattle.float.specs.declared.Class.{Class}
 use Rattle.float.specs.declared.Class.the-variants.{Zero, Subnormal, Normal, Infinite, Nan}
 use Rattle.float.specs.Format.{infOf, negativeOf, absOf, finiteOf, magOf, scaledOf, classAt, classOf}

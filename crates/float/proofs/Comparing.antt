@@ -1,14 +1,14 @@
 -- Two patterns that are no NaN order as their abs do when these are read with the sign: that is the order of what they stand for.
 -- A rising map that keeps 0 keeps the order of signed numbers; the scaled magnitude is such a map, and so is a change of unit.
 use mathlib.Core.Path.{_≡_, refl, sym, _∙_, ap, subst}
-use mathlib.Core.Logic.{_⊎_, inl, inr}
+use mathlib.Core.Logic.{inl, inr}
 use mathlib.Core.Bool.{Bool, true, false, cond}
-use Prim.Native.Nat.{ℕ, zero, suc, _+_, _*_, _^_, _≤_, _<_}
+use Prim.Native.Nat.{ℕ, zero, suc, _*_, _≤_, _<_}
 use native.Mathlib.Nat.{mul-lt-mul-of-pos-right, zero-mul}
 use native.Mathlib.Omega.{arith}
 use borrow.Author.Tests.{lt-ltb, le-ltb, eq-eqb, ne-eqb}
 use lib.Dec.{ltb, eqb, eqb·suc-zero, leb·suc-suc}
-use lib.IntN.{ℤ, pos, negsuc, negℤ}
+use lib.IntN.{ℤ}
 use Rattle.float.specs.Format.{infOf, negativeOf, absOf, magOf}
 use Rattle.float.specs.Number.{signedOf, Exact, notNumber, infinite, finite, times, Number, none, minusInfinity, plusInfinity, number, infinityOf, numberOf}
 use Rattle.float.specs.Order.{orderN, orderZ, orderOf, patternOf, compareOf}

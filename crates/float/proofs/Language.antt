@@ -1,7 +1,7 @@
 -- The language's own floats, by their bits: the float of a pattern stands for what the pattern stands for.
 -- A finite float m * 2 ^ e and a scaled magnitude a are one number when m * up e * 2 ^ low is a * down e.
 use mathlib.Core.Path.{_≡_, refl, sym, _∙_, ap, subst}
-use mathlib.Core.Logic.{_⊎_, inl, inr}
+use mathlib.Core.Logic.{inl, inr}
 use mathlib.Core.Bool.{Bool, true, false, cond}
 use Prim.Native.Nat.{ℕ, zero, suc, _+_, _-_, _*_, _/_, _%_, _^_, _≤_, _<_}
 use native.Mathlib.Nat.{mul-one}
@@ -13,7 +13,7 @@ use lib.Ieee.{Float, nan, inf, fin, Format, binary32, binary64, prec, low, up, d
 use lib.Ieee.Exact.{HasValue, odd-sign}
 use lib.Ieee.Bits.{ofBits-toBits, toBits-lt}
 use Rattle.float.specs.Format.{fractionOf, exponentOf, infOf, negativeOf, absOf, nanOf, magAt, magOf}
-use Rattle.float.specs.Number.{Exact, notNumber, infinite, finite}
+use Rattle.float.specs.Number.{Exact, notNumber, infinite, finite, isNone}
 use Rattle.float.specs.Order.{patternOf}
 use Rattle.float.proofs.Naturals.{lt-or-ge, three-ways}
 
@@ -117,19 +117,14 @@ float-means f x h = subst (λ (v : Float). Means f v (patternOf (fractionOf f) (
 
 -- ---- NaN
 
-unfoldable pub isNone : Exact → Bool
-isNone notNumber = true
-isNone (infinite s) = false
-isNone (finite s m) = false
-
 nan-means : (f : Format) {x : Float} {X : Exact} → Means f x X → isNan x ≡ isNone X
-unfolding isNan isNone
+unfolding isNan
 nan-means f means-nan = refl
 nan-means f (means-inf s) = refl
 nan-means f (means-fin s m e a q) = refl
 
 none-pattern : (p e b : ℕ) → isNone (patternOf p e b) ≡ nanOf p e b
-unfolding isNone patternOf
+unfolding patternOf
 none-pattern p e b = go (nanOf p e b) (eqb (absOf p e b) (infOf p e))
   where
     go : (n i : Bool) → isNone (cond n notNumber (cond i (infinite (negativeOf p e b)) (finite (negativeOf p e b) (magOf p (absOf p e b))))) ≡ n

@@ -1,11 +1,11 @@
 -- The language's own `<`, `<=`, `==`, `!=` on floats are the tests of the comparison of their bits: a common factor changes no order.
 use mathlib.Core.Path.{_≡_, refl, sym, _∙_, ap}
-use mathlib.Core.Bool.{Bool, true, false, not, _||_, _&&_, cond}
+use mathlib.Core.Bool.{Bool, true, false, not, _||_, _&&_, cond, and-true, and-false}
 use Prim.Native.Nat.{ℕ, zero, suc, _+_, _*_, _^_, _<_}
 use native.Mathlib.Nat.{zero-mul, mul-assoc, mul-comm, mul-right-comm, mul-pos}
 use native.Mathlib.Omega.{arith}
 use borrow.Author.Tests.{lt-ltb}
-use lib.Dec.{T, ltb, eqb, eqb·suc-zero, eqb·zero-suc}
+use lib.Dec.{T, eqb, eqb·suc-zero, eqb·zero-suc}
 use lib.Pow.{pow-pos}
 use lib.IntN.{ℤ}
 use lib.Ieee.{Float, Format, low, up, down, toBits, lt, le, eq, ne, below, level, fits}
@@ -35,14 +35,6 @@ below-sign true zero false zero = refl
 below-sign true zero false (suc Q) = lt-ltb 0 (0 + suc Q) (omega arith) ∙ simp eqb·suc-zero
 below-sign true (suc P) false Q = lt-ltb 0 (suc P + Q) (omega arith) ∙ simp eqb·suc-zero
 below-sign true P true Q = sym (less-test Q P)
-
-and-true : (b : Bool) → (b && true) ≡ b
-and-true true = refl
-and-true false = refl
-
-and-false : (b : Bool) → (b && false) ≡ false
-and-false true = refl
-and-false false = refl
 
 unlike-level : (P Q : ℕ) (o : Order) → isEqual o ≡ false → (eqb P Q && eqb P 0) ≡ isEqual (cond (eqb P 0) (cond (eqb Q 0) Equal o) o)
 unlike-level zero zero o h = refl

@@ -1,12 +1,12 @@
 -- Two numbers compare Equal exactly when they are one number.
-use mathlib.Core.Path.{_≡_, refl, sym, _∙_, ap}
-use mathlib.Core.Logic.{_⊎_, inl, inr}
+use mathlib.Core.Path.{_≡_, refl, sym, ap}
+use mathlib.Core.Logic.{inl, inr}
 use Prim.Native.Nat.{ℕ}
 use native.Mathlib.Omega.{arith}
 use lib.IntN.{ℤ, pos, negsuc}
 use Rattle.float.specs.Number.{Number, none, minusInfinity, plusInfinity, number}
 use Rattle.float.specs.Order.{orderN, orderZ, orderOf}
-use Rattle.float.specs.declared.Order.the-variants.{Less, Equal, Greater, Unordered}
+use Rattle.float.specs.declared.Order.the-variants.{Equal}
 use Rattle.float.proofs.Naturals.{three-ways, order-less, order-greater, order-equal}
 
 equal-naturals : (m n : ℕ) → orderN m n ≡ Equal → m ≡ n

@@ -9,12 +9,12 @@ use lib.IntN.{ℤ, pos, negsuc}
 use lib.Signed.{ltZ}
 use lib.Ieee.{Float, Format, toBits, isNan, fits}
 use Rattle.float.specs.Format.{fractionOf, exponentOf}
-use Rattle.float.specs.Number.{signedOf, Exact, notNumber, infinite, finite, Number, none, minusInfinity, plusInfinity, number, numberOf}
+use Rattle.float.specs.Number.{signedOf, Exact, notNumber, infinite, finite, isNone, Number, none, minusInfinity, plusInfinity, number, numberOf}
 use Rattle.float.specs.Order.{orderZ, orderOf, patternOf, compareOf, isUnordered, isLess, isGreater}
 use Rattle.float.specs.declared.Order.{Order}
 use Rattle.float.specs.declared.Order.the-variants.{Less, Equal, Greater, Unordered}
 use Rattle.float.proofs.Comparing.{unordered-right}
-use Rattle.float.proofs.Language.{isNone, nan-float}
+use Rattle.float.proofs.Language.{nan-float}
 
 abbrev pub turned : Order → Order
 turned Less = Greater
@@ -73,7 +73,6 @@ integers-ordered y z = go (ltZ y z) (ltZ z y)
     go false false = refl
 
 unordered-none : (x y : Exact) → isUnordered (orderOf (numberOf x) (numberOf y)) ≡ (isNone x || isNone y)
-unfolding isNone
 unordered-none notNumber y = refl
 unordered-none (infinite true) notNumber = refl
 unordered-none (infinite false) notNumber = refl

@@ -14,6 +14,12 @@ pub data Exact : Type 0 where
   infinite : Bool → Exact
   finite : Bool → ℕ → Exact
 
+-- a NaN stands for no number
+abbrev pub isNone : Exact → Bool
+isNone notNumber = true
+isNone (infinite s) = false
+isNone (finite s m) = false
+
 -- the same in units that are k times smaller
 abbrev pub times : ℕ → Exact → Exact
 times k notNumber = notNumber

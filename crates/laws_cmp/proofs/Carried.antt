@@ -1,10 +1,8 @@
 -- Laws are carried along a function that keeps the comparison and eq, and a linear order gives its partial order.
-use mathlib.Core.Path.{_≡_, refl, sym, _∙_}
-use mathlib.Core.Bool.{Bool, true}
+use mathlib.Core.Bool.{Bool}
 use Rattle.float.specs.declared.Order.{Order}
-use Rattle.float.specs.declared.Order.the-variants.{Less, Equal, Greater}
-use Rattle.value.specs.Outcome.{Outcome, gives}
-use Rattle.laws_cmp.specs.Laws.{PartialOrder, LinearOrder}
+use Rattle.value.specs.Outcome.{Outcome}
+use Rattle.laws_cmp.specs.Laws.{PartialOrder}
 
 -- lemma_isomorphic_obeys_cmp
 module _ {A B : Type 0} (compare : A → A → Outcome Order) (eq : A → A → Outcome Bool) (f : B → A) where

@@ -1,7 +1,6 @@
 -- The clauses of max, min, clamp, min_by and max_by of vstd/std_specs/cmp.rs, each from the definition at the orders that it names.
 use mathlib.Core.Path.{_≡_, refl, sym, _∙_, ap}
-use mathlib.Core.Logic.{_⊎_, inl, inr}
-use mathlib.Core.Bool.{Bool, true, false}
+use mathlib.Core.Bool.{true, false}
 use Rattle.float.specs.declared.Order.{Order}
 use Rattle.float.specs.declared.Order.the-variants.{Less, Equal, Greater, Unordered}
 use Rattle.float.specs.Order.{isLess, isLessOrEqual, isGreater, isUnordered}

@@ -1,8 +1,6 @@
 -- The comparison of values is a partial order on all ten kinds at once: it goes by the number, and numbers are so ordered.
 use mathlib.Core.Path.{_≡_, refl, sym, _∙_, ap}
-use mathlib.Core.Bool.{Bool, true, false}
-use Prim.Native.Nat.{ℕ}
-use native.Mathlib.Omega.{arith}
+use mathlib.Core.Bool.{true}
 use Rattle.float.specs.declared.Order.{Order}
 use Rattle.float.specs.declared.Order.the-variants.{Less, Equal, Greater, Unordered}
 use Rattle.float.specs.Order.{orderOf, isEqual}
@@ -10,7 +8,6 @@ use Rattle.float.proofs.Turned.{turned, turn}
 use Rattle.float.proofs.Transitive.{less-trans}
 use Rattle.float.proofs.SameNumber.{equal-same}
 use Rattle.value.specs.declared.Value.{Value}
-use Rattle.value.specs.Kinds.{kindOf}
 use Rattle.value.specs.Meaning.{numberOf}
 use Rattle.value.specs.Outcome.{Outcome, gives, refuses, mapped}
 use Rattle.cmp.specs.Compare.{compareOf, eqOf}

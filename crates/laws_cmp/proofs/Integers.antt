@@ -1,16 +1,15 @@
 -- On the eight integer kinds the comparison is a linear order: it is the total order there, and Equal only of a value with itself.
-use mathlib.Core.Path.{_≡_, refl, sym, _∙_, ap}
-use Rattle.float.specs.declared.Order.{Order}
-use Rattle.float.specs.declared.Order.the-variants.{Less, Equal, Greater}
+use mathlib.Core.Path.{_≡_, sym, _∙_}
+use Rattle.float.specs.declared.Order.the-variants.{Equal}
 use Rattle.float.proofs.SameNumber.{equal-integers}
 use Rattle.value.specs.declared.Value.{Value}
 use Rattle.value.specs.Meaning.{positionOf}
 use Rattle.value.specs.Outcome.{gives}
-use Rattle.value.proofs.Forms.{Whole, whole-same}
+use Rattle.value.proofs.Forms.{whole-same}
 use Rattle.cmp.specs.Compare.{compareOf, totalOf}
 use Rattle.cmp.proofs.Answers.{integers-agree}
 use Rattle.cmp.proofs.Given.{total-order}
-use Rattle.laws_cmp.specs.Laws.{PartialOrder, LinearOrder, Ordered, OneKind, OneIntegerKind}
+use Rattle.laws_cmp.specs.Laws.{LinearOrder, Ordered, OneIntegerKind}
 use Rattle.laws_cmp.proofs.Comparison.{values-partial-order}
 use Rattle.laws_cmp.proofs.TotalOrder.{values-total-order, other-whole}
 

@@ -1,10 +1,8 @@
 -- The total order is linear on every kind, Equal only for the same bits, and agrees with a comparison that says Less or Greater.
-use mathlib.Core.Path.{_≡_, refl, sym, _∙_, ap, subst}
+use mathlib.Core.Path.{_≡_, sym, _∙_, ap, subst}
 use mathlib.Core.Logic.{_⊎_, inl, inr}
 use Prim.Native.Nat.{ℕ, _<_}
-use native.Mathlib.Omega.{arith}
 use lib.Dec.{T, ltb, lit<}
-use lib.IntN.{ℤ}
 use lib.Ieee.{Format, binary32, binary64}
 use Rattle.float.specs.Format.{fractionOf, exponentOf, infOf}
 use Rattle.float.specs.Format as float
@@ -21,7 +19,7 @@ use Rattle.float.proofs.Agreement.{less-position}
 use Rattle.value.specs.declared.Value.{Value}
 use Rattle.value.specs.Kinds.{kindOf, kindNumber, formOf, Form}
 use Rattle.value.specs.Kinds as kinds
-use Rattle.value.specs.Meaning.{Content, real, contentOf, bitsIn, bitsOf, numberOf, positionIn, positionOf, exactIn, stepOf}
+use Rattle.value.specs.Meaning.{real, bitsIn, bitsOf, numberOf, positionIn, positionOf, exactIn, stepOf}
 use Rattle.value.specs.Outcome.{gives}
 use Rattle.value.proofs.Forms.{Whole, Floating, whole-or-floating, whole-same}
 use Rattle.cmp.specs.Compare.{compareOf, totalOf}

@@ -1,5 +1,4 @@
 -- What a comparison owes. A refusal is no order: two values of different kinds meet no law, and need none.
-use Prim.Native.Nat.{ℕ}
 use mathlib.Core.Path.{_≡_}
 use mathlib.Core.Logic.{_⊎_}
 use mathlib.Core.Bool.{Bool, true}

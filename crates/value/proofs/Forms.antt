@@ -1,17 +1,16 @@
 -- A value is of an integer kind or holds a float; an integer kind's value is told by its kind and its number.
-use mathlib.Core.Path.{_≡_, refl, sym, _∙_, ap}
+use mathlib.Core.Path.{_≡_, refl, sym, _∙_}
 use mathlib.Core.Logic.{_⊎_, inl, inr}
-use mathlib.Core.Bool.{Bool, true, false}
 use Prim.Native.Nat.{ℕ}
 use lib.Dec.{T, ltb}
-use lib.IntN.{ℤ, pos, negsuc, natAbs}
+use lib.IntN.{ℤ, natAbs}
 use lib.Ieee.{Float, Format, binary32, binary64}
 use Rattle.value.specs.declared.Kind.{Kind}
 use Rattle.value.specs.declared.Kind.the-variants as kind
 use Rattle.value.specs.declared.Value.{Value}
 use Rattle.value.specs.declared.Value.the-variants.{U8, U16, U32, U64, I8, I16, I32, I64, F32, F64}
-use Rattle.value.specs.Kinds.{kindOf, kindNumber, Form, float, formOf}
-use Rattle.value.specs.Meaning.{Content, real, contentOf, positionOf}
+use Rattle.value.specs.Kinds.{kindOf, kindNumber, float, formOf}
+use Rattle.value.specs.Meaning.{real, contentOf, positionOf}
 
 -- the kind is one of the first eight
 abbrev pub Whole : Value → Type 0

@@ -1,13 +1,12 @@
 -- A kind's number is its place in the list of kinds: each is read back from the other.
 use mathlib.Core.Path.{_≡_, refl, sym, _∙_, ap}
 use mathlib.Core.List.{List, [], _∷_}
-use Prim.Native.Nat.{ℕ, zero, suc, _≤_, _<_}
+use Prim.Native.Nat.{ℕ, zero, suc, _≤_}
 use native.Mathlib.Omega.{arith}
 use lib.ListN.{length}
 use Rattle.value.specs.Kinds.{kindNumber, allKinds, kindIn, kindAt}
 use Rattle.value.specs.declared.Kind.{Kind}
 use Rattle.value.specs.declared.Kind.the-variants as kind
-use Rattle.value.specs.declared.KindFound.{KindFound}
 use Rattle.value.specs.declared.KindFound.the-variants.{Is, Nothing}
 
 kind-past : (ks : List Kind) (n : ℕ) → length ks ≤ n → Nothing ≡ kindIn ks n

@@ -2,7 +2,6 @@
 use mathlib.Core.Path.{_≡_, refl, _∙_}
 use Prim.Native.Nat.{ℕ, _%_, _^_, _<_}
 use native.Mathlib.Nat.{mod-lt, mod-eq-of-lt}
-use lib.Dec.{lit<}
 use lib.Pow.{pow-pos}
 use lib.Ieee.{binary32, binary64}
 use Rattle.value.specs.declared.Kind.{Kind}
@@ -12,7 +11,7 @@ use Rattle.value.specs.Meaning.{bitsOf, valueOf}
 use Rattle.value.proofs.TwosComplement.{twos-from}
 use Rattle.value.proofs.FloatBits.{bits-pattern}
 
-low-bits : (b n : ℕ) → b % 2 ^ n < 2 ^ n
+pub low-bits : (b n : ℕ) → b % 2 ^ n < 2 ^ n
 low-bits b n = mod-lt b (pow-pos n)
 
 bits-made : (k : Kind) (b : ℕ) → bitsOf (valueOf k b) ≡ b % 2 ^ widthOf k

@@ -1,8 +1,10 @@
 -- An outcome of one answer tells the answer: a refusal is its number and its place.
 use mathlib.Core.Path.{_≡_, refl, sym, _∙_}
+use mathlib.Core.Bool.{Bool, true, false}
 use Prim.Native.Nat.{ℕ}
+use native.Mathlib.Omega.{arith}
 use Rattle.value.specs.declared.Refusal.{Refusal}
-use Rattle.value.specs.Outcome.{Outcome, gives, refuses, refusalOf}
+use Rattle.value.specs.Outcome.{Outcome, gives, refuseIf, refusalOf}
 
 made : ℕ → ℕ → Refusal
 made number place = record { number = number; place = place }
@@ -15,3 +17,8 @@ pub refusal-injective : {A : Type 0} (f g : Refusal) → _≡_ {A = Outcome A} (
 refusal-injective f g h =
     let both : made (f .number) (f .place) ≡ made (g .number) (g .place) = cc in
     sym (made-of f) ∙ both ∙ made-of g
+
+-- a result came past the rule
+pub refuse-passes : {A : Type 0} (t : Bool) (n p : ℕ) (next : Outcome A) (a : A) → refuseIf t n p next ≡ gives a → (t ≡ false) × (next ≡ gives a)
+refuse-passes true n p next a h = absurd (let q : _≡_ {A = ℕ} 0 1 = cc in omega arith)
+refuse-passes false n p next a h = (refl, h)

@@ -1,6 +1,6 @@
 // Kinds, and their numbers 0 to 9. RULES.md: The ten kinds.
 ghost use mathlib.Core.Path.{_≡_};
-ghost use Prim.Native.Nat.{_+_, _≤_, _<_};
+ghost use Prim.Native.Nat.{_+_, _<_};
 ghost use Rattle.value.specs.Kinds.{kindOf, kindNumber, kindAt};
 use crate::Kind;
 use crate::KindFound;

@@ -1,5 +1,4 @@
 -- Each arm knows the order that was compared, or the refusal.
-use mathlib.Core.Path.{refl, sym, ap}
 use mathlib.Core.List.{[], _∷_}
 use mathlib.Core.Bool.{not, _||_}
 use Rattle.float.specs.Order.{isGreater, isUnordered}

@@ -1,6 +1,5 @@
 -- Each arm knows the step.
 use mathlib.Core.Path.{_≡_, sym, ap}
-use Prim.Native.Nat.{ℕ}
 use native.Mathlib.Omega.{arith}
 use Rattle.value.specs.Kinds.{kindAt}
 use Rattle.value.proofs.kinds.unsigned_kind.Statement.{statement}

@@ -1,5 +1,4 @@
 -- From 0 on z is its own pattern; below, -1 - z is its magnitude less one.
-use borrow.Author.Needs.{needs}
 use Rattle.value.proofs.TwosComplement.{natural-cast, natural-is, negative-fits, negative-cast, negative-below, negative-is}
 use Rattle.value.proofs.patterns.twos.Statement.{statement}
 use Rattle.value.proofs.patterns.twos.Tie as tie
