@@ -1,7 +1,7 @@
 -- The five rules all pass exactly when some value of the form has the number: by the three forms.
 use mathlib.Core.Path.{_≡_, refl, sym, _∙_, ap, subst}
 use mathlib.Core.Logic.{_⊎_, inl, inr}
-use mathlib.Core.Bool.{Bool, true, false, not, _&&_, true≢false}
+use mathlib.Core.Bool.{Bool, true, false, not, _&&_, true≢false, and-true, and-false}
 use Prim.Native.Nat.{ℕ, zero, suc, _-_, _*_, _/_, _%_, _^_, _≤_, _<_}
 use native.Mathlib.Nat.{mul-div-cancel, mul-mod-left, mul-le-mul-right, div-add-mod', zero-mul, zero-div}
 use native.Mathlib.Omega.{arith}
@@ -13,14 +13,16 @@ use lib.Pow.{pow-pos}
 use lib.Ieee.{Format}
 use Rattle.float.specs.Format.{fractionOf, exponentOf, signOf, infOf, negativeOf, absOf, magOf}
 use Rattle.float.specs.ClassMeaning.{largestOf}
-use Rattle.float.specs.Number.{Exact, notNumber, infinite, finite, times, none, number, infinityOf, numberOf, signedOf}
+use Rattle.float.specs.Number.{Exact, notNumber, infinite, finite, isNone, times, none, number, infinityOf, numberOf, signedOf}
 use Rattle.float.specs.Order.{patternOf}
 use Rattle.float.proofs.Naturals.{three-ways}
 use Rattle.float.proofs.Magnitude.{mag-grows, mag-largest}
 use Rattle.float.proofs.Comparing.{pattern-nan, pattern-infinite, pattern-finite}
 use Rattle.value.specs.Kinds.{Form, unsigned, signed, float}
 use Rattle.value.specs.Meaning.{wholeOf, unit, stepOf}
-use Rattle.convert.specs.Convert.{isNone, isInfinite, isInteger, hasFraction, outside, outOfRange, notHeld, encodeOf, heldIn, patternFor, magnitudeFor, signFor}
+use Rattle.value.specs.Outcome.{gives}
+use Rattle.value.proofs.Outcomes.{refuse-passes}
+use Rattle.convert.specs.Convert.{rulesOf, isInfinite, isInteger, hasFraction, outside, outOfRange, notHeld, heldIn, patternFor, signFor, magnitudeFor, absFor, integerFor}
 use Rattle.convert.proofs.Encode.{held-of}
 use Rattle.convert.proofs.Patterns.{two-or-more, inf-range, made-small, encode-below, finite-made, infinite-made}
 
@@ -32,10 +34,22 @@ pub record Accepted (form : Form) (x : Exact) : Type 0 where
   pub in-range : outOfRange form x ≡ false
   pub held : notHeld form x ≡ false
 
+pub rules-accept : {A : Type 0} (form : Form) (x : Exact) (result a : A) → rulesOf form x result ≡ gives a → Accepted form x × (result ≡ a)
+rules-accept form x result r h =
+    let a = refuse-passes _ _ _ _ r h in
+    let b = refuse-passes _ _ _ _ r (a .1) in
+    let c = refuse-passes _ _ _ _ r (b .1) in
+    let d = refuse-passes _ _ _ _ r (c .1) in
+    let e = refuse-passes _ _ _ _ r (d .1) in
+    (record { some-number = a .0; no-infinity = b .0; no-fraction = c .0; in-range = d .0; held = e .0 }, cc)
+
+pub rules-give : {A : Type 0} (form : Form) (x : Exact) (result : A) → Accepted form x → rulesOf form x result ≡ gives result
+rules-give form x result a = simp (a .some-number, a .no-infinity, a .no-fraction, a .in-range, a .held)
+
 -- what the made value means
 abbrev pub exactFor : Form → Exact → Exact
 exactFor (unsigned k) x = times unit (wholeOf (pos (magnitudeFor x)))
-exactFor (signed k) x = times unit (wholeOf (signedOf (signFor x) (magnitudeFor x)))
+exactFor (signed k) x = times unit (wholeOf (integerFor x))
 exactFor (float f) x = times (stepOf f) (patternOf (fractionOf f) (exponentOf f) (patternFor f x))
 
 -- ---- signs and magnitudes
@@ -66,13 +80,9 @@ unit-pos : 0 < unit
 unfolding unit
 unit-pos = pow-pos 1074
 
-and-true : (b : Bool) → b ≡ (b && true)
-and-true true = refl
-and-true false = refl
-
 -- without a fraction, the whole part has the magnitude
 whole-part : (m : ℕ) → (not (eqb (m % unit) 0) && true) ≡ false → m / unit * unit ≡ m
-whole-part m h = let z : m % unit ≡ 0 = eqb-true _ _ (not-false _ (and-true _ ∙ h)) in omega (arith, div-add-mod' m unit)
+whole-part m h = let z : m % unit ≡ 0 = eqb-true _ _ (not-false _ (sym (and-true _) ∙ h)) in omega (arith, div-add-mod' m unit)
 
 -- ---- accepted: the made value has the number
 
@@ -110,17 +120,20 @@ minus-fits : (half n : ℕ) → 0 < half → n ≤ half → mag (signedOf true n
 minus-fits half zero z h = z
 minus-fits half (suc n) z h = h
 
-pub signed-fits : (k : ℕ) (x : Exact) → Accepted (signed k) x → mag (signedOf (signFor x) (magnitudeFor x)) < 2 ^ (k - 1)
+pub signed-fits : (k : ℕ) (x : Exact) → Accepted (signed k) x → mag (integerFor x) < 2 ^ (k - 1)
 signed-fits k notNumber a = absurd (true≢false (a .some-number))
 signed-fits k (infinite s) a = absurd (true≢false (a .no-infinity))
 signed-fits k (finite true m) a = minus-fits (2 ^ (k - 1)) (m / unit) (pow-pos (k - 1)) (ltb-false _ _ (a .in-range))
 signed-fits k (finite false m) a = let l : m / unit ≤ 2 ^ (k - 1) - 1 = ltb-false _ _ (a .in-range) in omega (arith, pow-pos (k - 1))
 
--- the pattern has the format's bits
+-- the abs lies below the sign bit, so the pattern has the format's bits
+pub abs-small : (f : Format) (x : Exact) → Accepted (float f) x → absFor f x < signOf (fractionOf f) (exponentOf f)
+abs-small f notNumber a = absurd (true≢false (a .some-number))
+abs-small f (infinite s) a = inf-range f .1
+abs-small f (finite s m) a = omega (arith, inf-range f .1, encode-below f m (ltb-false _ _ (a .in-range)) (not-false _ (a .held)))
+
 pub pattern-small : (f : Format) (x : Exact) → Accepted (float f) x → patternFor f x < 2 * signOf (fractionOf f) (exponentOf f)
-pattern-small f notNumber a = absurd (true≢false (a .some-number))
-pattern-small f (infinite s) a = made-small f s (infOf (fractionOf f) (exponentOf f)) (inf-range f .1)
-pattern-small f (finite s m) a = made-small f s (encodeOf f m) (omega (arith, inf-range f .1, encode-below f m (ltb-false _ _ (a .in-range)) (not-false _ (a .held))))
+pattern-small f x a = made-small f (signFor x) (absFor f x) (abs-small f x a)
 
 -- ---- some value has the number: accepted
 
@@ -204,7 +217,3 @@ accepts-float f c (finite s m) t h =
       in-range = le-ltb (largestOf (fractionOf f) (exponentOf f) * stepOf f) m b;
       held = ap not (ap (heldIn f) (g .1) ∙ held-of f x);
     }
-  where
-    and-false : (b : Bool) → (b && false) ≡ false
-    and-false true = refl
-    and-false false = refl

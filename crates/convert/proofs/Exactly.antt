@@ -3,15 +3,14 @@ use mathlib.Core.Path.{_≡_, refl, sym, _∙_, ap, subst}
 use mathlib.Core.Bool.{Bool, true, false, cond}
 use mathlib.Core.Logic.{inl, inr}
 use Prim.Native.Nat.{ℕ, _-_, _*_, _%_, _^_, _<_}
-use native.Mathlib.Nat.{mod-lt, mod-eq-of-lt}
+use native.Mathlib.Nat.{mod-eq-of-lt}
 use native.Mathlib.Omega.{arith}
 use borrow.Author.Tests.{eq-eqb, ne-eqb}
 use lib.IntN.{ℤ, pos, negsuc}
 use lib.Signed.{mag}
-use lib.Pow.{pow-pos}
 use lib.Ieee.{Format, binary32, binary64, ofBits, top}
 use Rattle.float.specs.Format.{fractionOf, exponentOf, signOf}
-use Rattle.float.specs.Number.{Exact, notNumber, infinite, finite, times, none, signedOf}
+use Rattle.float.specs.Number.{Exact, notNumber, infinite, finite, isNone, times, none}
 use Rattle.float.specs.Number as float-number
 use Rattle.float.specs.Order.{patternOf}
 use Rattle.float.proofs.Naturals.{lt-or-ge}
@@ -21,11 +20,12 @@ use Rattle.value.specs.declared.Value.{Value}
 use Rattle.value.specs.declared.Value.the-variants.{U8, U16, U32, U64, I8, I16, I32, I64}
 use Rattle.value.specs.Kinds.{kindOf, kindNumber, Form, float, formOf}
 use Rattle.value.specs.Meaning.{exactOf, numberOf, bitsOf, stepOf, twosOf, fromTwos, f32Value, f64Value, valueOf, wordFor, floatBits}
-use Rattle.value.specs.Outcome.{Outcome, gives, refuseIf}
+use Rattle.value.specs.Outcome.{gives}
 use Rattle.value.proofs.FloatBits.{bits-pattern}
+use Rattle.value.proofs.MadeValues.{low-bits}
 use Rattle.value.proofs.TwosComplement.{from-low, from-high, from-twos}
-use Rattle.convert.specs.Convert.{isNone, magnitudeFor, signFor, patternFor, madeIn, intoOf, convertOf}
-use Rattle.convert.proofs.Accepted.{Accepted, exactFor, made-number, made-float, unsigned-fits, signed-fits, pattern-small, accepts-unsigned, accepts-signed, accepts-float}
+use Rattle.convert.specs.Convert.{magnitudeFor, integerFor, patternFor, madeIn, intoOf, convertOf}
+use Rattle.convert.proofs.Accepted.{Accepted, rules-accept, rules-give, exactFor, made-number, made-float, unsigned-fits, signed-fits, pattern-small, accepts-unsigned, accepts-signed, accepts-float}
 
 -- ---- the made value
 
@@ -83,10 +83,10 @@ made-of-bits kind.U8 x a = ap U8 (natural-of 8 (magnitudeFor x) (unsigned-fits 8
 made-of-bits kind.U16 x a = ap U16 (natural-of 16 (magnitudeFor x) (unsigned-fits 16 x a))
 made-of-bits kind.U32 x a = ap U32 (natural-of 32 (magnitudeFor x) (unsigned-fits 32 x a))
 made-of-bits kind.U64 x a = ap U64 (natural-of 64 (magnitudeFor x) (unsigned-fits 64 x a))
-made-of-bits kind.I8 x a = ap I8 (integer-of (2 ^ 7) (signedOf (signFor x) (magnitudeFor x)) (signed-fits 8 x a))
-made-of-bits kind.I16 x a = ap I16 (integer-of (2 ^ 15) (signedOf (signFor x) (magnitudeFor x)) (signed-fits 16 x a))
-made-of-bits kind.I32 x a = ap I32 (integer-of (2 ^ 31) (signedOf (signFor x) (magnitudeFor x)) (signed-fits 32 x a))
-made-of-bits kind.I64 x a = ap I64 (integer-of (2 ^ 63) (signedOf (signFor x) (magnitudeFor x)) (signed-fits 64 x a))
+made-of-bits kind.I8 x a = ap I8 (integer-of (2 ^ 7) (integerFor x) (signed-fits 8 x a))
+made-of-bits kind.I16 x a = ap I16 (integer-of (2 ^ 15) (integerFor x) (signed-fits 16 x a))
+made-of-bits kind.I32 x a = ap I32 (integer-of (2 ^ 31) (integerFor x) (signed-fits 32 x a))
+made-of-bits kind.I64 x a = ap I64 (integer-of (2 ^ 63) (integerFor x) (signed-fits 64 x a))
 made-of-bits kind.F32 x a = ap f32Value (float-of binary32 x a)
 made-of-bits kind.F64 x a = ap f64Value (float-of binary64 x a)
 
@@ -98,9 +98,6 @@ from-fits half n h = elim (lt-or-ge n half) [
   | inl l ↦ subst (λ (z : ℤ). mag z < half) (from-low half n l) l
   | inr g ↦ let b : 2 * half - 1 - n < half = omega arith in subst (λ (z : ℤ). mag z < half) (from-high half n g refl) b
 ]
-
-low-bits : (b n : ℕ) → b % 2 ^ n < 2 ^ n
-low-bits b n = mod-lt b (pow-pos n)
 
 accepts : (to : Kind) (b : ℕ) (x : Exact) → isNone x ≡ false → numberOf (valueOf to b) ≡ float-number.numberOf x → Accepted (formOf to) x
 unfolding valueOf
@@ -117,25 +114,15 @@ accepts kind.F64 b x t h = accepts-float binary64 _ x t h
 
 -- ---- the five rules
 
-refuse-passes : {A : Type 0} (t : Bool) (n p : ℕ) (next : Outcome A) (a : A) → refuseIf t n p next ≡ gives a → (t ≡ false) × (next ≡ gives a)
-refuse-passes true n p next a h = absurd (let q : _≡_ {A = ℕ} 0 1 = cc in omega arith)
-refuse-passes false n p next a h = (refl, h)
-
 into-accepts : (to : Kind) (x : Exact) (w : Value) → intoOf to x ≡ gives w → Accepted (formOf to) x × (madeIn to x ≡ w)
 unfolding intoOf
-into-accepts to x w h =
-    let a = refuse-passes _ _ _ _ w h in
-    let b = refuse-passes _ _ _ _ w (a .1) in
-    let c = refuse-passes _ _ _ _ w (b .1) in
-    let d = refuse-passes _ _ _ _ w (c .1) in
-    let e = refuse-passes _ _ _ _ w (d .1) in
-    (record { some-number = a .0; no-infinity = b .0; no-fraction = c .0; in-range = d .0; held = e .0 }, cc)
+into-accepts to x w h = rules-accept (formOf to) x (madeIn to x) w h
 
 into-gives : (to : Kind) (x : Exact) → Accepted (formOf to) x → intoOf to x ≡ gives (madeIn to x)
 unfolding intoOf
-into-gives to x a = simp (a .some-number, a .no-infinity, a .no-fraction, a .in-range, a .held)
+into-gives to x a = rules-give (formOf to) x (madeIn to x) a
 
-other-kind : (v : Value) (to : Kind) → (kindNumber (kindOf v) ≡ kindNumber to → ⊥) → convertOf v to ≡ intoOf to (exactOf v)
+pub other-kind : (v : Value) (to : Kind) → (kindNumber (kindOf v) ≡ kindNumber to → ⊥) → convertOf v to ≡ intoOf to (exactOf v)
 unfolding convertOf
 other-kind v to d = ap (λ (t : Bool). cond t (gives v) (intoOf to (exactOf v))) (ne-eqb _ _ d)
 
@@ -153,9 +140,12 @@ is-none (finite s m) t h = let q : _≡_ {A = ℕ} 0 1 = cc in omega arith
 -- ---- when a value converts
 
 -- the same kind: the same value
-pub same-kind : (v : Value) → convertOf v (kindOf v) ≡ gives v
+pub own-kind : (v : Value) (to : Kind) → kindNumber (kindOf v) ≡ kindNumber to → convertOf v to ≡ gives v
 unfolding convertOf
-same-kind v = ap (λ (t : Bool). cond t (gives v) (intoOf (kindOf v) (exactOf v))) (eq-eqb (kindNumber (kindOf v)) (kindNumber (kindOf v)) refl)
+own-kind v to q = ap (λ (t : Bool). cond t (gives v) (intoOf to (exactOf v))) (eq-eqb _ _ q)
+
+pub same-kind : (v : Value) → convertOf v (kindOf v) ≡ gives v
+same-kind v = own-kind v (kindOf v) refl
 
 module _ (v : Value) (to : Kind) (other : kindNumber (kindOf v) ≡ kindNumber to → ⊥) where
   -- an answer has a number; it is the value of some bits of the kind, and has that number

@@ -1,5 +1,10 @@
 pub mod Cases
+pub mod Binary
+pub mod Taken
+pub mod Wholes
 pub mod Encode
+pub mod Holds
+pub mod Puts
 pub mod Patterns
 pub mod Accepted
 pub mod Exactly

@@ -3,16 +3,19 @@ use Prim.Native.Nat.{ℕ, suc, _+_, _-_, _*_, _/_, _%_, _^_}
 use mathlib.Core.Bool.{Bool, true, false, not, _&&_, cond}
 use lib.Dec.{eqb, ltb}
 use lib.Ieee.{Format, binary32, binary64, size}
+use lib.IntN.{ℤ}
 use Rattle.float.specs.Format.{fractionOf, exponentOf, infOf, signOf, magOf}
 use Rattle.float.specs.ClassMeaning.{largestOf}
-use Rattle.float.specs.Number.{Exact, notNumber, infinite, finite, signedOf}
+use Rattle.float.specs.Number.{Exact, notNumber, infinite, finite, isNone, signedOf}
 use Rattle.value.specs.declared.Kind.{Kind}
 use Rattle.value.specs.declared.Kind.the-variants as kind
 use Rattle.value.specs.declared.Value.{Value}
 use Rattle.value.specs.declared.Value.the-variants.{U8, U16, U32, U64, I8, I16, I32, I64}
 use Rattle.value.specs.Kinds.{Form, unsigned, signed, float, formOf, kindOf, kindNumber}
 use Rattle.value.specs.Meaning.{exactOf, unit, stepOf, f32Value, f64Value}
-use Rattle.value.specs.Outcome.{Outcome, gives, refuseIf}
+use Rattle.value.specs.Outcome.{Outcome, gives, refuseIf, refusalOf}
+use Rattle.convert.specs.declared.Converted.{Converted}
+use Rattle.convert.specs.declared.Converted.the-variants as converted
 
 -- ---- a magnitude in a float format, in units of 2^-1074
 
@@ -34,13 +37,7 @@ heldIn f m = eqb (magOf (fractionOf f) (encodeOf f m) * stepOf f) m
 
 -- ---- the rules of a target form
 
--- 1: a NaN
-abbrev pub isNone : Exact → Bool
-isNone notNumber = true
-isNone (infinite s) = false
-isNone (finite s m) = false
-
--- 2: an infinity to an integer kind
+-- 1: a NaN, `isNone`; 2: an infinity to an integer kind
 abbrev pub isInfinite : Exact → Bool
 isInfinite notNumber = false
 isInfinite (infinite s) = true
@@ -89,45 +86,61 @@ notHeld form (finite s m) = notHeldIn form m
 abbrev pub withSign : Format → Bool → ℕ → ℕ
 withSign f s a = cond s (signOf (fractionOf f) (exponentOf f) + a) a
 
-abbrev pub patternFor : Format → Exact → ℕ
-patternFor f notNumber = 0
-patternFor f (infinite s) = withSign f s (infOf (fractionOf f) (exponentOf f))
-patternFor f (finite s m) = withSign f s (encodeOf f m)
+-- the sign, and beside it an integer's magnitude or a float's abs
+abbrev pub signFor : Exact → Bool
+signFor notNumber = false
+signFor (infinite s) = s
+signFor (finite s m) = s
 
 abbrev pub magnitudeFor : Exact → ℕ
 magnitudeFor notNumber = 0
 magnitudeFor (infinite s) = 0
 magnitudeFor (finite s m) = m / unit
 
-abbrev pub signFor : Exact → Bool
-signFor notNumber = false
-signFor (infinite s) = s
-signFor (finite s m) = s
+abbrev pub absFor : Format → Exact → ℕ
+absFor f notNumber = 0
+absFor f (infinite s) = infOf (fractionOf f) (exponentOf f)
+absFor f (finite s m) = encodeOf f m
+
+abbrev pub integerFor : Exact → ℤ
+integerFor x = signedOf (signFor x) (magnitudeFor x)
+
+abbrev pub patternFor : Format → Exact → ℕ
+patternFor f x = withSign f (signFor x) (absFor f x)
 
 unfoldable pub madeIn : Kind → Exact → Value
 madeIn kind.U8 x = U8 (magnitudeFor x)
 madeIn kind.U16 x = U16 (magnitudeFor x)
 madeIn kind.U32 x = U32 (magnitudeFor x)
 madeIn kind.U64 x = U64 (magnitudeFor x)
-madeIn kind.I8 x = I8 (signedOf (signFor x) (magnitudeFor x))
-madeIn kind.I16 x = I16 (signedOf (signFor x) (magnitudeFor x))
-madeIn kind.I32 x = I32 (signedOf (signFor x) (magnitudeFor x))
-madeIn kind.I64 x = I64 (signedOf (signFor x) (magnitudeFor x))
+madeIn kind.I8 x = I8 (integerFor x)
+madeIn kind.I16 x = I16 (integerFor x)
+madeIn kind.I32 x = I32 (integerFor x)
+madeIn kind.I64 x = I64 (integerFor x)
 madeIn kind.F32 x = f32Value (patternFor binary32 x)
 madeIn kind.F64 x = f64Value (patternFor binary64 x)
 
 -- ---- the conversion
 
--- to another kind: the first rule that holds refuses, else the value of the kind with the number
-unfoldable pub intoOf : Kind → Exact → Outcome Value
-intoOf to x =
+-- the first rule of the form that holds refuses, else the result
+abbrev pub rulesOf : {A : Type 0} → Form → Exact → A → Outcome A
+rulesOf form x result =
     refuseIf (isNone x) 1 0
-    (refuseIf (isInfinite x && isInteger (formOf to)) 2 0
-    (refuseIf (hasFraction x && isInteger (formOf to)) 3 0
-    (refuseIf (outOfRange (formOf to) x) 4 0
-    (refuseIf (notHeld (formOf to) x) 5 0
-    (gives (madeIn to x))))))
+    (refuseIf (isInfinite x && isInteger form) 2 0
+    (refuseIf (hasFraction x && isInteger form) 3 0
+    (refuseIf (outOfRange form x) 4 0
+    (refuseIf (notHeld form x) 5 0
+    (gives result)))))
+
+-- to another kind: the value of the kind with the number
+unfoldable pub intoOf : Kind → Exact → Outcome Value
+intoOf to x = rulesOf (formOf to) x (madeIn to x)
 
 -- to its own kind every value comes back as it is
 unfoldable pub convertOf : Value → Kind → Outcome Value
 convertOf v to = cond (eqb (kindNumber (kindOf v)) (kindNumber to)) (gives v) (intoOf to (exactOf v))
+
+-- what the answer says in the words of the rules
+abbrev pub convertedOutcome : Converted → Outcome Value
+convertedOutcome (converted.To w) = gives w
+convertedOutcome (converted.Refused f) = refusalOf f

@@ -1,0 +1,176 @@
+-- What a target finds and the value that it makes of it are the five rules and the value of the definition.
+use mathlib.Core.Path.{_≡_, refl, sym, _∙_, ap, subst}
+use mathlib.Core.Bool.{Bool, true, false, not, _&&_}
+use Prim.Native.Nat.{ℕ, zero, suc, _+_, _-_, _*_, _/_, _%_, _^_, _<_}
+use native.Mathlib.Omega.{arith}
+use lib.Dec.{eqb, ltb}
+use lib.IntN.{ℤ, pos, negsuc}
+use lib.Ieee.{Format, binary32, binary64}
+use lib.Signed.{mag}
+use Rattle.float.specs.Format.{fractionOf, exponentOf, signOf, infOf}
+use Rattle.float.specs.ClassMeaning.{largestOf}
+use Rattle.float.specs.Number.{Exact, notNumber, infinite, finite, isNone, signedOf}
+use Rattle.value.specs.declared.Kind.{Kind}
+use Rattle.value.specs.declared.Kind.the-variants as kind
+use Rattle.value.specs.declared.Value.{Value}
+use Rattle.value.specs.declared.Value.the-variants.{U8, U16, U32, U64, I8, I16, I32, I64}
+use Rattle.value.specs.Kinds.{Form, unsigned, signed, float, formOf}
+use Rattle.value.specs.Meaning.{unit, stepOf, f32Value, f64Value}
+use Rattle.value.specs.Outcome.{Outcome, gives, refuses, refuseIf, mapped}
+use Rattle.convert.specs.declared.Found.{Found}
+use Rattle.convert.specs.declared.Found.the-variants as found
+use Rattle.convert.specs.Convert.{encodeOf, heldIn, isInfinite, isInteger, hasFraction, outside, outOfRange, notHeld, rulesOf, withSign, signFor, magnitudeFor, absFor, madeIn, intoOf}
+use Rattle.convert.specs.Steps.{foundOutcome, wholeIn, floatIn}
+use Rattle.convert.proofs.Accepted.{Accepted, rules-accept, unsigned-fits, signed-fits, abs-small}
+
+-- ---- what each kind finds, and makes of it
+
+abbrev pub findIn : Kind → Exact → Outcome (Bool × ℕ)
+findIn kind.U8 x = wholeIn 0 0xff x
+findIn kind.U16 x = wholeIn 0 0xffff x
+findIn kind.U32 x = wholeIn 0 0xffff_ffff x
+findIn kind.U64 x = wholeIn 0 0xffff_ffff_ffff_ffff x
+findIn kind.I8 x = wholeIn 0x80 0x7f x
+findIn kind.I16 x = wholeIn 0x8000 0x7fff x
+findIn kind.I32 x = wholeIn 0x8000_0000 0x7fff_ffff x
+findIn kind.I64 x = wholeIn 0x8000_0000_0000_0000 0x7fff_ffff_ffff_ffff x
+findIn kind.F32 x = floatIn 23 (2 ^ 925) 253 x
+findIn kind.F64 x = floatIn 52 1 2045 x
+
+abbrev pub makeIn : Kind → Bool × ℕ → Value
+makeIn kind.U8 w = U8 (w .1)
+makeIn kind.U16 w = U16 (w .1)
+makeIn kind.U32 w = U32 (w .1)
+makeIn kind.U64 w = U64 (w .1)
+makeIn kind.I8 w = I8 (signedOf (w .0) (w .1))
+makeIn kind.I16 w = I16 (signedOf (w .0) (w .1))
+makeIn kind.I32 w = I32 (signedOf (w .0) (w .1))
+makeIn kind.I64 w = I64 (signedOf (w .0) (w .1))
+makeIn kind.F32 w = f32Value (withSign binary32 (w .0) (w .1))
+makeIn kind.F64 w = f64Value (withSign binary64 (w .0) (w .1))
+
+abbrev numberFor : Form → Exact → ℕ
+numberFor (unsigned k) x = magnitudeFor x
+numberFor (signed k) x = magnitudeFor x
+numberFor (float f) x = absFor f x
+
+-- ---- the rules by the cases of the number
+
+whole-rules : {A : Type 0} (t u : Bool) (a : A) → refuseIf t 3 0 (refuseIf u 4 0 (gives a)) ≡ refuseIf (t && true) 3 0 (refuseIf u 4 0 (refuseIf false 5 0 (gives a)))
+whole-rules true u a = refl
+whole-rules false u a = refl
+
+float-rules : {A : Type 0} (t u v : Bool) (a : A) → refuseIf u 4 0 (refuseIf v 5 0 (gives a)) ≡ refuseIf (t && false) 3 0 (refuseIf u 4 0 (refuseIf v 5 0 (gives a)))
+float-rules true u v a = refl
+float-rules false u v a = refl
+
+find-unsigned : (k : ℕ) (x : Exact) → wholeIn 0 (2 ^ k - 1) x ≡ rulesOf (unsigned k) x (signFor x, magnitudeFor x)
+unfolding wholeIn
+find-unsigned k notNumber = refl
+find-unsigned k (infinite s) = refl
+find-unsigned k (finite s m) = whole-rules (not (eqb (m % unit) 0)) (outside 0 (2 ^ k - 1) s (m / unit)) (s, m / unit)
+
+find-signed : (k : ℕ) (x : Exact) → wholeIn (2 ^ (k - 1)) (2 ^ (k - 1) - 1) x ≡ rulesOf (signed k) x (signFor x, magnitudeFor x)
+unfolding wholeIn
+find-signed k notNumber = refl
+find-signed k (infinite s) = refl
+find-signed k (finite s m) = whole-rules (not (eqb (m % unit) 0)) (outside (2 ^ (k - 1)) (2 ^ (k - 1) - 1) s (m / unit)) (s, m / unit)
+
+find-float : (f : Format) (last : ℕ) → last ≡ 2 ^ exponentOf f - 3 → (last + 2) * 2 ^ fractionOf f ≡ infOf (fractionOf f) (exponentOf f) → (x : Exact)
+    → floatIn (fractionOf f) (stepOf f) last x ≡ rulesOf (float f) x (signFor x, absFor f x)
+unfolding floatIn heldIn encodeOf
+find-float f last q i notNumber = refl
+find-float f last q i (infinite s) = ap (λ (n : ℕ). gives (s, n)) i
+find-float f last q i (finite s m) = rw q (float-rules (hasFraction (finite s m)) (ltb (largestOf (fractionOf f) (exponentOf f) * stepOf f) m) (not (heldIn f m)) (s, encodeOf f m))
+
+pub find-rules : (to : Kind) (x : Exact) → findIn to x ≡ rulesOf (formOf to) x (signFor x, numberFor (formOf to) x)
+unfolding stepOf
+find-rules kind.U8 x = find-unsigned 8 x
+find-rules kind.U16 x = find-unsigned 16 x
+find-rules kind.U32 x = find-unsigned 32 x
+find-rules kind.U64 x = find-unsigned 64 x
+find-rules kind.I8 x = find-signed 8 x
+find-rules kind.I16 x = find-signed 16 x
+find-rules kind.I32 x = find-signed 32 x
+find-rules kind.I64 x = find-signed 64 x
+find-rules kind.F32 x = find-float binary32 253 refl refl x
+find-rules kind.F64 x = find-float binary64 2045 refl refl x
+
+-- ---- the value made of it
+
+mapped-rules : {A B : Type 0} (f : A → B) (form : Form) (x : Exact) (a : A) → mapped f (rulesOf form x a) ≡ rulesOf form x (f a)
+mapped-rules f form x a = go (isNone x) (isInfinite x && isInteger form) (hasFraction x && isInteger form) (outOfRange form x) (notHeld form x)
+  where
+    go : (n i h o u : Bool) → mapped f (refuseIf n 1 0 (refuseIf i 2 0 (refuseIf h 3 0 (refuseIf o 4 0 (refuseIf u 5 0 (gives a)))))) ≡ refuseIf n 1 0 (refuseIf i 2 0 (refuseIf h 3 0 (refuseIf o 4 0 (refuseIf u 5 0 (gives (f a))))))
+    go true i h o u = refl
+    go false true h o u = refl
+    go false false true o u = refl
+    go false false false true u = refl
+    go false false false false true = refl
+    go false false false false false = refl
+
+make-is : (to : Kind) (x : Exact) → makeIn to (signFor x, numberFor (formOf to) x) ≡ madeIn to x
+unfolding madeIn
+make-is kind.U8 x = refl
+make-is kind.U16 x = refl
+make-is kind.U32 x = refl
+make-is kind.U64 x = refl
+make-is kind.I8 x = refl
+make-is kind.I16 x = refl
+make-is kind.I32 x = refl
+make-is kind.I64 x = refl
+make-is kind.F32 x = refl
+make-is kind.F64 x = refl
+
+into-found : (to : Kind) (x : Exact) → mapped (makeIn to) (findIn to x) ≡ intoOf to x
+unfolding intoOf
+into-found to x =
+    ap (mapped (makeIn to)) (find-rules to x)
+    ∙ mapped-rules (makeIn to) (formOf to) x (signFor x, numberFor (formOf to) x)
+    ∙ ap (λ (v : Value). rulesOf (formOf to) x v) (make-is to x)
+
+-- ---- what was found fits the kind
+
+abbrev FitsIn : Form → Bool × ℕ → Type 0
+FitsIn (unsigned k) w = w .1 < 2 ^ k
+FitsIn (signed k) w = mag (signedOf (w .0) (w .1)) < 2 ^ (k - 1)
+FitsIn (float f) w = w .1 < signOf (fractionOf f) (exponentOf f)
+
+number-fits : (form : Form) (x : Exact) → Accepted form x → FitsIn form (signFor x, numberFor form x)
+number-fits (unsigned k) x a = unsigned-fits k x a
+number-fits (signed k) x a = signed-fits k x a
+number-fits (float f) x a = abs-small f x a
+
+-- ---- as the code has it: what was found, in the arm of a kind
+
+module _ (k : Kind) (x : Exact) (w : Found) (h : foundOutcome w ≡ findIn k x) where
+  made : mapped (makeIn k) (foundOutcome w) ≡ intoOf k x
+  made = ap (mapped (makeIn k)) h ∙ into-found k x
+
+  module _ {to : Kind} (at : to ≡ k) where
+    pub put-is : (s : Bool) (n : ℕ) → w ≡ found.Is s n → gives (makeIn k (s, n)) ≡ intoOf to x
+    put-is s n q = sym (ap (λ (v : Found). mapped (makeIn k) (foundOutcome v)) q) ∙ made ∙ sym (ap (λ (j : Kind). intoOf j x) at)
+
+    pub put-refused : (j : ℕ) → w ≡ found.Refused j → refuses j 0 ≡ intoOf to x
+    put-refused j q = sym (ap (λ (v : Found). mapped (makeIn k) (foundOutcome v)) q) ∙ made ∙ sym (ap (λ (j : Kind). intoOf j x) at)
+
+  pub found-fits : (s : Bool) (n : ℕ) → w ≡ found.Is s n → FitsIn (formOf k) (s, n)
+  found-fits s n q =
+      let a = rules-accept (formOf k) x (signFor x, numberFor (formOf k) x) (s, n) (sym (find-rules k x) ∙ sym h ∙ ap foundOutcome q) in
+      subst (λ (v : Bool × ℕ). FitsIn (formOf k) v) (a .1) (number-fits (formOf k) x (a .0))
+
+-- ---- a sign and a magnitude as a signed number
+
+module _ (n h : ℕ) where
+  pub minus-zero : (s : Bool) → s ≡ true → n ≡ 0 → pos 0 ≡ signedOf s n
+  minus-zero s e q = sym (rw (e, q))
+
+  pub minus-fits : (s : Bool) → s ≡ true → (n ≡ 0 → ⊥) → mag (signedOf s n) < h → (n - 1 < h) × (negsuc (n - 1) ≡ signedOf s n)
+  minus-fits s e d l = let q : signedOf s n ≡ negsuc (n - 1) = rw e (below n d) in (subst (λ (z : ℤ). mag z < h) q l, sym q)
+    where
+      below : (n : ℕ) → (n ≡ 0 → ⊥) → signedOf true n ≡ negsuc (n - 1)
+      below zero d = absurd (d refl)
+      below (suc n) d = ap negsuc (omega arith)
+
+  pub plus-fits : (s : Bool) → s ≡ false → mag (signedOf s n) < h → (n < h) × (pos n ≡ signedOf s n)
+  plus-fits s e l = let q : signedOf s n ≡ pos n = rw e refl in (subst (λ (z : ℤ). mag z < h) q l, sym q)

@@ -1,0 +1,194 @@
+// A number put together in the target kind, or the rule that refuses it. RULES.md: Exact conversion.
+ghost use mathlib.Core.Path.{_≡_};
+ghost use mathlib.Core.Bool.{cond};
+ghost use Prim.Native.Nat.{_+_, _*_, _^_, _≤_, _<_};
+ghost use lib.Signed.{mag};
+ghost use Rattle.float.specs.Number.{signedOf};
+ghost use Rattle.value.specs.Outcome.{refuses};
+ghost use Rattle.convert.specs.Convert.{intoOf, convertedOutcome};
+ghost use Rattle.convert.specs.Steps.{meaning, foundOutcome, wholeAt, wholeIn, floatAt, floatIn};
+use crate::Converted;
+use crate::Found;
+use crate::Parts;
+use crate::digits::over;
+use crate::digits::size_of;
+use value::Kind;
+use value::Refusal;
+use value::Value;
+
+// A finite number, m * 2^g units, as a whole number from -low to high. From 2^64 on there is no fraction left.
+fn whole(s: bool, m: u64, g: u16, low: u64, high: u64) -> Found
+    ensures { λ r. ⌜ foundOutcome r ≡ wholeAt low high s (m * 2 ^ g) ⌝ }
+{
+    if m == 0 {
+        return Found::Is(s, 0);
+    }
+    if size_of(m) as u64 + g as u64 > 1138 {
+        return Found::Refused(4);
+    }
+    let ratio = over(m, g as u64, 1074);
+    if ratio.rest {
+        return Found::Refused(3);
+    }
+    let limit = if s { low } else { high };
+    if ratio.quotient > limit {
+        return Found::Refused(4);
+    }
+    Found::Is(s, ratio.quotient)
+}
+
+fn whole_in(x: Parts, low: u64, high: u64) -> Found
+    ensures { λ r. ⌜ foundOutcome r ≡ wholeIn low high (meaning x) ⌝ }
+{
+    match x {
+        Parts::NotANumber => Found::Refused(1),
+        Parts::Infinite(_) => Found::Refused(2),
+        Parts::Finite(s, m, g) => whole(s, m, g, low, high),
+    }
+}
+
+// A finite number in a float format: its leading p + 1 digits are kept, and those below have to be 0. Field k + 1 is the exponent's.
+fn held(s: bool, m: u64, g: u16, p: u16, c: u16, last: u16) -> Found
+    requires { ⌜ (p ≤ 52) × (last ≤ 2045) ⌝ }
+    ensures { λ r. ⌜ foundOutcome r ≡ floatAt p (2 ^ c) last s (m * 2 ^ g) ⌝ }
+{
+    if m == 0 {
+        return Found::Is(s, 0);
+    }
+    let digits = size_of(m) as u64 + g as u64;
+    let kept = p as u64 + 1 + c as u64;
+    let k = if digits > kept { digits - kept } else { 0 };
+    if k > last as u64 {
+        return Found::Refused(4);
+    }
+    let ratio = over(m, g as u64, k + c as u64);
+    if ratio.rest {
+        if k == last as u64 {
+            if ratio.quotient == (2u64 << p) - 1 {
+                return Found::Refused(4);
+            }
+        }
+        return Found::Refused(5);
+    }
+    Found::Is(s, (k << p) + ratio.quotient)
+}
+
+fn float_in(x: Parts, p: u16, c: u16, last: u16) -> Found
+    requires { ⌜ (p ≤ 52) × (last ≤ 2045) ⌝ }
+    ensures { λ r. ⌜ foundOutcome r ≡ floatIn p (2 ^ c) last (meaning x) ⌝ }
+{
+    match x {
+        Parts::NotANumber => Found::Refused(1),
+        Parts::Infinite(s) => Found::Is(s, (last as u64 + 2) << p),
+        Parts::Finite(s, m, g) => held(s, m, g, p, c, last),
+    }
+}
+
+// ---- the value
+
+fn refused(number: u8) -> Converted
+    ensures { λ r. ⌜ convertedOutcome r ≡ refuses number 0 ⌝ }
+{
+    Converted::Refused(Refusal { number, place: 0 })
+}
+
+fn signed(s: bool, n: u64) -> i64
+    requires { ⌜ mag (signedOf s n) < 2 ^ 63 ⌝ }
+    ensures { λ r. ⌜ r ≡ signedOf s n ⌝ }
+{
+    if s {
+        if n == 0 { 0 } else { -((n - 1) as i64) - 1 }
+    } else {
+        n as i64
+    }
+}
+
+fn with_sign(s: bool, a: u64, sign: u64) -> u64
+    requires { ⌜ (a < sign) × (sign ≤ 2 ^ 63) ⌝ }
+    ensures { λ r. ⌜ (r ≡ cond s (sign + a) a) × (r < 2 * sign) ⌝ }
+{
+    if s { sign + a } else { a }
+}
+
+pub(crate) fn put(x: Parts, to: Kind) -> Converted
+    ensures { λ r. ⌜ convertedOutcome r ≡ intoOf to (meaning x) ⌝ }
+{
+    match to {
+        Kind::U8 => {
+            let w = whole_in(x, 0, 0xff);
+            match w {
+                Found::Is(_, n) => Converted::To(Value::U8(n as u8)),
+                Found::Refused(k) => refused(k),
+            }
+        }
+        Kind::U16 => {
+            let w = whole_in(x, 0, 0xffff);
+            match w {
+                Found::Is(_, n) => Converted::To(Value::U16(n as u16)),
+                Found::Refused(k) => refused(k),
+            }
+        }
+        Kind::U32 => {
+            let w = whole_in(x, 0, 0xffff_ffff);
+            match w {
+                Found::Is(_, n) => Converted::To(Value::U32(n as u32)),
+                Found::Refused(k) => refused(k),
+            }
+        }
+        Kind::U64 => {
+            let w = whole_in(x, 0, 0xffff_ffff_ffff_ffff);
+            match w {
+                Found::Is(_, n) => Converted::To(Value::U64(n)),
+                Found::Refused(k) => refused(k),
+            }
+        }
+        Kind::I8 => {
+            let w = whole_in(x, 0x80, 0x7f);
+            match w {
+                Found::Is(s, n) => Converted::To(Value::I8(signed(s, n) as i8)),
+                Found::Refused(k) => refused(k),
+            }
+        }
+        Kind::I16 => {
+            let w = whole_in(x, 0x8000, 0x7fff);
+            match w {
+                Found::Is(s, n) => Converted::To(Value::I16(signed(s, n) as i16)),
+                Found::Refused(k) => refused(k),
+            }
+        }
+        Kind::I32 => {
+            let w = whole_in(x, 0x8000_0000, 0x7fff_ffff);
+            match w {
+                Found::Is(s, n) => Converted::To(Value::I32(signed(s, n) as i32)),
+                Found::Refused(k) => refused(k),
+            }
+        }
+        Kind::I64 => {
+            let w = whole_in(x, 0x8000_0000_0000_0000, 0x7fff_ffff_ffff_ffff);
+            match w {
+                Found::Is(s, n) => Converted::To(Value::I64(signed(s, n))),
+                Found::Refused(k) => refused(k),
+            }
+        }
+        Kind::F32 => {
+            let w = float_in(x, 23, 925, 253);
+            match w {
+                Found::Is(s, a) => Converted::To(value::f32_value(
+                    with_sign(s, a, 0x8000_0000) as u32,
+                )),
+                Found::Refused(k) => refused(k),
+            }
+        }
+        Kind::F64 => {
+            let w = float_in(x, 52, 0, 2045);
+            match w {
+                Found::Is(s, a) => Converted::To(value::f64_value(with_sign(
+                    s,
+                    a,
+                    0x8000_0000_0000_0000,
+                ))),
+                Found::Refused(k) => refused(k),
+            }
+        }
+    }
+}
