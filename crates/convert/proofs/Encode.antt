@@ -44,6 +44,10 @@ pub encode-mag : (p x : ℕ) → encodeAt p (magOf p x) ≡ x
 unfolding magOf
 encode-mag p x = encode-fields p (x / 2 ^ p) (x % 2 ^ p) (mod-lt x (pow-pos p)) ∙ div-add-mod' x (2 ^ p)
 
+-- so two abs of one scaled magnitude are one
+pub mag-same : (p x y : ℕ) → magOf p x ≡ magOf p y → x ≡ y
+mag-same p x y h = sym (encode-mag p x) ∙ ap (encodeAt p) h ∙ encode-mag p y
+
 -- and nothing stood below the leading digits
 has-fields : (p E f : ℕ) → f < 2 ^ p → magAt p E f % 2 ^ dropOf p (magAt p E f) ≡ 0
 has-fields p zero f h =

@@ -29,7 +29,7 @@ use Rattle.convert.proofs.Accepted.{Accepted, rules-accept, rules-give,
 
 -- ---- the made value
 
-made-kind : (to : Kind) (x : Exact) → kindOf (madeIn to x) ≡ to
+pub made-kind : (to : Kind) (x : Exact) → kindOf (madeIn to x) ≡ to
 unfolding madeIn
 made-kind kind.U8 x = refl
 made-kind kind.U16 x = refl
@@ -49,7 +49,7 @@ sign-top binary64 = refl
 float-bits : (f : Format) (x : Exact) → Accepted (float f) x → floatBits f (ofBits f (patternFor f x)) (wordFor (fractionOf f) (exponentOf f) (patternFor f x)) ≡ patternFor f x
 float-bits f x a = bits-pattern f (patternFor f x) (subst (λ (n : ℕ). patternFor f x < n) (sign-top f) (pattern-small f x a))
 
-made-exact : (to : Kind) (x : Exact) → Accepted (formOf to) x → exactOf (madeIn to x) ≡ exactFor (formOf to) x
+pub made-exact : (to : Kind) (x : Exact) → Accepted (formOf to) x → exactOf (madeIn to x) ≡ exactFor (formOf to) x
 unfolding madeIn
 made-exact kind.U8 x a = refl
 made-exact kind.U16 x a = refl
@@ -93,7 +93,7 @@ made-of-bits kind.F64 x a = ap f64Value (float-of binary64 x a)
 -- ---- a value of the kind that has the number
 
 -- the low n bits, read in two's complement, fit
-from-fits : (half n : ℕ) → n < 2 * half → mag (fromTwos half n) < half
+pub from-fits : (half n : ℕ) → n < 2 * half → mag (fromTwos half n) < half
 from-fits half n h = elim (lt-or-ge n half) [
   | inl l ↦ subst (λ (z : ℤ). mag z < half) (from-low half n l) l
   | inr g ↦ let b : 2 * half - 1 - n < half = omega arith in subst (λ (z : ℤ). mag z < half) (from-high half n g refl) b
@@ -114,11 +114,11 @@ accepts kind.F64 b x t h = accepts-float binary64 _ x t h
 
 -- ---- the five rules
 
-into-accepts : (to : Kind) (x : Exact) (w : Value) → intoOf to x ≡ gives w → Accepted (formOf to) x × (madeIn to x ≡ w)
+pub into-accepts : (to : Kind) (x : Exact) (w : Value) → intoOf to x ≡ gives w → Accepted (formOf to) x × (madeIn to x ≡ w)
 unfolding intoOf
 into-accepts to x w h = rules-accept (formOf to) x (madeIn to x) w h
 
-into-gives : (to : Kind) (x : Exact) → Accepted (formOf to) x → intoOf to x ≡ gives (madeIn to x)
+pub into-gives : (to : Kind) (x : Exact) → Accepted (formOf to) x → intoOf to x ≡ gives (madeIn to x)
 unfolding intoOf
 into-gives to x a = rules-give (formOf to) x (madeIn to x) a
 
@@ -126,7 +126,7 @@ pub other-kind : (v : Value) (to : Kind) → (kindNumber (kindOf v) ≡ kindNumb
 unfolding convertOf
 other-kind v to d = ap (λ (t : Bool). cond t (gives v) (intoOf to (exactOf v))) (ne-eqb _ _ d)
 
-none-is : (x : Exact) → (float-number.numberOf x ≡ none → ⊥) → isNone x ≡ false
+pub none-is : (x : Exact) → (float-number.numberOf x ≡ none → ⊥) → isNone x ≡ false
 none-is notNumber h = absurd (h refl)
 none-is (infinite s) h = refl
 none-is (finite s m) h = refl

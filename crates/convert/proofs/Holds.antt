@@ -102,7 +102,7 @@ module _ (p c S k : ℕ) (e : k ≡ size S - suc p - c) where
         less-one zero a h k = absurd (omega arith)
         less-one (suc q) a h k = let e : suc q - 1 ≡ q = omega arith in subst (λ (x : ℕ). x * a < suc q * a) (sym e) (omega (arith, suc-mul q a))
 
-    exact-within : k ≤ last → S % 2 ^ (k + c) ≡ 0 → S ≤ (2 ^ suc p - 1) * 2 ^ last * 2 ^ c
+    pub exact-within : k ≤ last → S % 2 ^ (k + c) ≡ 0 → S ≤ (2 ^ suc p - 1) * 2 ^ last * 2 ^ c
     exact-within h z = within (S / 2 ^ (k + c)) (k + c) (le-of-eq (sym split ∙ rw z (add-zero _))) (let q = kept-small in omega arith) (omega arith)
 
     -- a lower exponent, or leading digits that aren't all ones

@@ -14,7 +14,7 @@ use Rattle.value.proofs.FloatBits.{bits-pattern}
 pub low-bits : (b n : ℕ) → b % 2 ^ n < 2 ^ n
 low-bits b n = mod-lt b (pow-pos n)
 
-bits-made : (k : Kind) (b : ℕ) → bitsOf (valueOf k b) ≡ b % 2 ^ widthOf k
+pub bits-made : (k : Kind) (b : ℕ) → bitsOf (valueOf k b) ≡ b % 2 ^ widthOf k
 unfolding valueOf
 bits-made kind.U8 b = refl
 bits-made kind.U16 b = refl

@@ -4,7 +4,7 @@ use mathlib.Core.Bool.{Bool, true, false}
 use Prim.Native.Nat.{ℕ}
 use native.Mathlib.Omega.{arith}
 use Rattle.value.specs.declared.Refusal.{Refusal}
-use Rattle.value.specs.Outcome.{Outcome, gives, refuseIf, refusalOf}
+use Rattle.value.specs.Outcome.{Outcome, gives, refuses, refuseIf, refusalOf}
 
 made : ℕ → ℕ → Refusal
 made number place = record { number = number; place = place }
@@ -22,3 +22,7 @@ refusal-injective f g h =
 pub refuse-passes : {A : Type 0} (t : Bool) (n p : ℕ) (next : Outcome A) (a : A) → refuseIf t n p next ≡ gives a → (t ≡ false) × (next ≡ gives a)
 refuse-passes true n p next a h = absurd (let q : _≡_ {A = ℕ} 0 1 = cc in omega arith)
 refuse-passes false n p next a h = (refl, h)
+
+-- one refusal is one number and one place
+pub refuses-same : {A : Type 0} {n p m q : ℕ} → _≡_ {A = Outcome A} (refuses n p) (refuses m q) → (n ≡ m) × (p ≡ q)
+refuses-same h = (cc, cc)
