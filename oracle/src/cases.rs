@@ -2,6 +2,7 @@
 //! between them.
 
 pub mod choice;
+pub mod convert;
 pub mod row;
 
 use crate::edges;

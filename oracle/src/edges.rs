@@ -104,6 +104,20 @@ pub const INTEGERS: [u64; 22] = [
     0xffff_ffff_ffff_ffff,
 ];
 
+/// Powers of two at which a kind ends, or begins to lack whole numbers.
+const POWERS: [u32; 10] = [7, 8, 15, 16, 24, 31, 32, 53, 63, 64];
+
+/// Whole numbers around these powers and the least ones, of either sign.
+pub fn whole_numbers() -> Vec<i128> {
+    let around = |power| [-1, 0, 1, 2].map(|step| (1i128 << power) + step);
+    let sizes = [1, 2, 3]
+        .into_iter()
+        .chain(POWERS.into_iter().flat_map(around));
+    [0].into_iter()
+        .chain(sizes.flat_map(|size| [size, -size]))
+        .collect()
+}
+
 /// The edges of a kind, without a sign.
 pub fn edges(kind: Kind) -> &'static [u64] {
     match kind {
@@ -235,6 +249,24 @@ mod tests {
             .chain(f32_ends);
         for number in all {
             assert!(F64.contains(&number.to_bits()), "{number}");
+        }
+    }
+
+    #[test]
+    fn whole_numbers_pass_the_ends_of_kinds() {
+        let numbers = whole_numbers();
+        for end in [
+            i128::from(u8::MAX),
+            u16::MAX.into(),
+            u32::MAX.into(),
+            u64::MAX.into(),
+            i8::MAX.into(),
+            i16::MAX.into(),
+            i32::MAX.into(),
+            i64::MAX.into(),
+        ] {
+            assert!(numbers.contains(&end) && numbers.contains(&(end + 1)));
+            assert!(numbers.contains(&(-1 - end)) && numbers.contains(&(-2 - end)));
         }
     }
 

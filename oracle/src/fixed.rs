@@ -1,6 +1,7 @@
 //! The fixed list of case lines: the same at every run.
 
 mod choice;
+mod convert;
 mod row;
 
 use crate::cases;
@@ -10,8 +11,8 @@ use crate::value::{Kind, Value};
 
 const TESTS: [&str; 6] = ["eq", "ne", "lt", "le", "gt", "ge"];
 
-/// Cases 1 to 4 and 11 of the marked ones, for f32 and then alike for f64.
-const MARKED: [&str; 25] = [
+/// Cases 1 to 11 of the marked ones, then 1 to 4 and 11 alike for f64.
+const MARKED: [&str; 40] = [
     "compare f32:00000000 f32:80000000",
     "total f32:00000000 f32:80000000",
     "total f32:80000000 f32:00000000",
@@ -23,6 +24,21 @@ const MARKED: [&str; 25] = [
     "class f32:007fffff",
     "class f32:00800000",
     "compare f32:007fffff f32:00800000",
+    "convert u32:01000000 f32",
+    "convert u32:01000001 f32",
+    "convert f32:477fff00 u16",
+    "convert f32:47800000 u16",
+    "convert f32:3f000000 u16",
+    "convert f32:80000000 u16",
+    "convert f64:36a0000000000000 f32",
+    "convert f64:3690000000000000 f32",
+    "convert f64:47f0000000000000 f32",
+    "convert i64:8000000000000000 f64",
+    "convert f64:43e0000000000000 i64",
+    "convert f64:43e0000000000000 u64",
+    "convert u16:00ff u8",
+    "convert u16:0100 u8",
+    "convert i8:ff u8",
     "clamp f32:80000000 f32:00000000 f32:3f800000",
     "rowclamp 00000000 3f800000 80000000",
     "compare f64:0000000000000000 f64:8000000000000000",
@@ -114,6 +130,7 @@ pub fn lines() -> Vec<String> {
     kinds_that_differ(&mut lines);
     choice::push(&mut lines);
     row::push(&mut lines);
+    convert::push(&mut lines);
     lines.extend(malformed().map(String::from));
     let mut random = Random::new(754);
     lines.extend((0..120).map(|_| cases::well_formed(&mut random)));
@@ -125,6 +142,7 @@ fn malformed() -> impl Iterator<Item = &'static str> {
         .into_iter()
         .chain(choice::MALFORMED)
         .chain(row::MALFORMED)
+        .chain(convert::MALFORMED)
 }
 
 fn push_pair(lines: &mut Vec<String>, word: &str, first: Value, second: Value) {
@@ -243,7 +261,7 @@ mod tests {
     #[test]
     fn length_and_text() {
         let lines = lines();
-        assert!((1000..=3000).contains(&lines.len()), "{}", lines.len());
+        assert!((1000..=6000).contains(&lines.len()), "{}", lines.len());
         let bytes: usize = lines.iter().map(|line| line.len() + 1).sum();
         assert!(bytes < 400_000, "{bytes}");
         assert!(lines

@@ -3,6 +3,7 @@
 //! that isn't of the grammar.
 
 pub mod choice;
+pub mod convert;
 
 use std::cmp::Ordering;
 use std::num::FpCategory;

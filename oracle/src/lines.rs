@@ -15,7 +15,7 @@ pub struct LineKind {
     pub judge: Judge,
 }
 
-pub const LINE_KINDS: [LineKind; 13] = [
+pub const LINE_KINDS: [LineKind; 14] = [
     line_kind("class", cases::one_float, judge::class),
     line_kind("compare", cases::pair, judge::compare),
     line_kind("total", cases::pair, judge::total),
@@ -29,6 +29,7 @@ pub const LINE_KINDS: [LineKind; 13] = [
     line_kind("max", cases::choice::pair, judge::choice::max),
     line_kind("clamp", cases::choice::clamp, judge::choice::clamp),
     line_kind("rowclamp", cases::row::rowclamp, judge::choice::rowclamp),
+    line_kind("convert", cases::convert::convert, judge::convert::convert),
 ];
 
 const fn line_kind(word: &'static str, make: Make, judge: Judge) -> LineKind {

@@ -1,5 +1,6 @@
 //! Lines that aren't of the grammar: each a case line spoiled in one way.
 
+mod convert;
 mod row;
 mod value;
 
@@ -7,7 +8,7 @@ use crate::cases;
 use crate::odd;
 use crate::random::Random;
 
-const WAYS: [fn(&mut Random) -> Vec<u8>; 21] = [
+const WAYS: [fn(&mut Random) -> Vec<u8>; 23] = [
     unknown_word,
     value::unknown_kind,
     operand_count,
@@ -24,6 +25,8 @@ const WAYS: [fn(&mut Random) -> Vec<u8>; 21] = [
     out_of_order,
     blank,
     noise,
+    convert::odd_target,
+    convert::odd_operands,
     row::odd_count,
     row::odd_bound,
     row::odd_sample,
@@ -125,7 +128,7 @@ fn odd_end(random: &mut Random) -> Vec<u8> {
     [&line, random.pick(&odd::ENDS).as_bytes()].concat()
 }
 
-/// A row's operands are no values, and the other words part by their count.
+/// The words part by the count of their operands, or by which are values.
 fn word_of_another(random: &mut Random) -> Vec<u8> {
     let mut fields = fields(random);
     let words = [
@@ -133,12 +136,12 @@ fn word_of_another(random: &mut Random) -> Vec<u8> {
         random.pick(&value::PAIR_WORDS),
         "clamp",
         "rowclamp",
+        "convert",
     ];
-    let own = match fields[0].as_slice() {
-        b"rowclamp" => 3,
-        _ => fields.len() - 2,
-    };
-    let other = (own + 1 + random.below(3)) % 4;
+    let own = words.iter().position(|word| word.as_bytes() == fields[0]);
+    // Any word of a pair stands for all of them.
+    let own = own.unwrap_or(1);
+    let other = (own + 1 + random.below(words.len() - 1)) % words.len();
     fields[0] = words[other].as_bytes().to_vec();
     joined(&fields)
 }

@@ -2,7 +2,7 @@
 //! become the word of a line kind.
 
 /// In the place of the word.
-pub const WORDS: [&str; 22] = [
+pub const WORDS: [&str; 26] = [
     "",
     "-",
     "#",
@@ -19,6 +19,10 @@ pub const WORDS: [&str; 22] = [
     "minmax",
     "clamped",
     "row_clamp",
+    "into",
+    "try_from",
+    "cast",
+    "as",
     "yes",
     "Less",
     "malformed",

@@ -1,7 +1,12 @@
 //! The rules in whole numbers, for the tests alone: class, scaled number,
-//! comparison, total order, choosing and clamping, without any float.
+//! comparison, total order, choosing, clamping and conversion, without any
+//! float.
+
+mod convert;
 
 use std::cmp::Ordering;
+
+pub use convert::convert;
 
 use crate::value::{Kind, Value};
 
@@ -50,11 +55,16 @@ pub fn class(value: Value) -> &'static str {
 
 /// The magnitude of the scaled number of a finite value.
 pub fn scaled(value: Value) -> Whole {
+    scaled_by(value, 0)
+}
+
+/// The same, times a power of two.
+fn scaled_by(value: Value, power: u64) -> Whole {
     let unit = unit(value.kind);
     let (exponent, fraction) = (abs(value) / unit, abs(value) % unit);
     match exponent {
-        0 => shifted(fraction, 0),
-        _ => shifted(unit + fraction, exponent - 1),
+        0 => shifted(fraction, power),
+        _ => shifted(unit + fraction, exponent - 1 + power),
     }
 }
 

@@ -1,6 +1,7 @@
 //! Rust's bodies, by way of the judges, against the rules in whole numbers.
 
 mod choice;
+mod convert;
 
 use std::cmp::Ordering;
 
@@ -8,7 +9,7 @@ use crate::cases;
 use crate::edges;
 use crate::lines;
 use crate::random::Random;
-use crate::rules;
+use crate::rules::{self, Refused};
 use crate::value::{Kind, Value};
 
 const LESS: Option<Ordering> = Some(Ordering::Less);
@@ -36,6 +37,14 @@ fn name(order: Option<Ordering>) -> &'static str {
 
 fn expect(line: &str, wanted: &str) {
     assert_eq!(lines::answer(line.as_bytes()), wanted, "{line}");
+}
+
+fn refused((number, place): Refused) -> String {
+    format!("refused {number} {place}")
+}
+
+fn text(answer: Result<Value, Refused>) -> String {
+    answer.map_or_else(refused, |value| value.to_string())
 }
 
 fn check_class(value: Value) {

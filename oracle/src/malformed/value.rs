@@ -11,20 +11,24 @@ pub const PAIR_WORDS: [&str; 10] = [
     "compare", "total", "eq", "ne", "lt", "le", "gt", "ge", "min", "max",
 ];
 
-/// The fields of a case line whose operands are values.
+/// The fields of a case line that has values.
 pub fn fields(random: &mut Random) -> Vec<Vec<u8>> {
-    split(&match random.below(6) {
+    split(&match random.below(7) {
         0 => format!("class {}", cases::one_float(random)),
         1 => format!("clamp {}", cases::choice::clamp(random)),
+        2 => format!("convert {}", cases::convert::convert(random)),
         _ => format!("{} {}", random.pick(&PAIR_WORDS), cases::pair(random)),
     })
 }
 
-/// A case line in which one operand is changed.
+/// A case line in which one value is changed.
 fn with_operand(random: &mut Random, change: fn(&mut Random, Value) -> Vec<u8>) -> Vec<u8> {
     let mut fields = fields(random);
-    let place = 1 + random.below(fields.len() - 1);
-    let value = Value::parse(&fields[place]).expect("a value of our own making");
+    let values = fields.iter().enumerate();
+    let values: Vec<(usize, Value)> = values
+        .filter_map(|(place, field)| Some((place, Value::parse(field)?)))
+        .collect();
+    let (place, value) = random.pick(&values);
     fields[place] = change(random, value);
     joined(&fields)
 }

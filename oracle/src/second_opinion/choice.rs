@@ -1,20 +1,12 @@
 //! Choosing and clamping against the rules in whole numbers.
 
-use super::{all_edges, expect};
+use super::{all_edges, expect, refused, text};
 use crate::cases;
 use crate::edges;
 use crate::lines;
 use crate::random::Random;
-use crate::rules::{self, Refused};
+use crate::rules;
 use crate::value::{self, Kind, Value};
-
-fn refused((number, place): Refused) -> String {
-    format!("refused {number} {place}")
-}
-
-fn text(answer: Result<Value, Refused>) -> String {
-    answer.map_or_else(refused, |value| value.to_string())
-}
 
 fn check_choice(a: Value, b: Value) {
     expect(&format!("min {a} {b}"), &text(rules::min(a, b)));
