@@ -179,11 +179,12 @@ mod tests {
             if line.len() > 200 {
                 assert!(line.len() < 8000);
                 let malformed = lines::answer(&line) == lines::MALFORMED;
-                assert!(line.starts_with(b"rowclamp ") || malformed && line.len() >= 1000);
+                let row = line.starts_with(b"rowclamp ") || line.starts_with(b"row ");
+                assert!(row || malformed && line.len() >= 1000);
                 long_rows += usize::from(!malformed);
             }
         }
-        assert!((150..350).contains(&long_rows), "{long_rows}");
+        assert!((300..550).contains(&long_rows), "{long_rows}");
     }
 
     #[test]

@@ -3,6 +3,7 @@
 mod choice;
 mod convert;
 mod row;
+mod rowclamp;
 
 use crate::cases;
 use crate::edges;
@@ -129,8 +130,9 @@ pub fn lines() -> Vec<String> {
     }
     kinds_that_differ(&mut lines);
     choice::push(&mut lines);
-    row::push(&mut lines);
+    rowclamp::push(&mut lines);
     convert::push(&mut lines);
+    row::push(&mut lines);
     lines.extend(malformed().map(String::from));
     let mut random = Random::new(754);
     lines.extend((0..120).map(|_| cases::well_formed(&mut random)));
@@ -141,8 +143,9 @@ fn malformed() -> impl Iterator<Item = &'static str> {
     MALFORMED
         .into_iter()
         .chain(choice::MALFORMED)
-        .chain(row::MALFORMED)
+        .chain(rowclamp::MALFORMED)
         .chain(convert::MALFORMED)
+        .chain(row::MALFORMED)
 }
 
 fn push_pair(lines: &mut Vec<String>, word: &str, first: Value, second: Value) {
@@ -263,7 +266,7 @@ mod tests {
         let lines = lines();
         assert!((1000..=6000).contains(&lines.len()), "{}", lines.len());
         let bytes: usize = lines.iter().map(|line| line.len() + 1).sum();
-        assert!(bytes < 400_000, "{bytes}");
+        assert!(bytes < 500_000, "{bytes}");
         assert!(lines
             .iter()
             .all(|line| line.is_ascii() && !line.contains('\n')));

@@ -4,6 +4,7 @@
 
 pub mod choice;
 pub mod convert;
+pub mod row;
 
 use std::cmp::Ordering;
 use std::num::FpCategory;

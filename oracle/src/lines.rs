@@ -15,7 +15,7 @@ pub struct LineKind {
     pub judge: Judge,
 }
 
-pub const LINE_KINDS: [LineKind; 14] = [
+pub const LINE_KINDS: [LineKind; 15] = [
     line_kind("class", cases::one_float, judge::class),
     line_kind("compare", cases::pair, judge::compare),
     line_kind("total", cases::pair, judge::total),
@@ -30,6 +30,7 @@ pub const LINE_KINDS: [LineKind; 14] = [
     line_kind("clamp", cases::choice::clamp, judge::choice::clamp),
     line_kind("rowclamp", cases::row::rowclamp, judge::choice::rowclamp),
     line_kind("convert", cases::convert::convert, judge::convert::convert),
+    line_kind("row", cases::row::row, judge::row::row),
 ];
 
 const fn line_kind(word: &'static str, make: Make, judge: Judge) -> LineKind {

@@ -8,7 +8,7 @@ use crate::cases;
 use crate::odd;
 use crate::random::Random;
 
-const WAYS: [fn(&mut Random) -> Vec<u8>; 23] = [
+const WAYS: [fn(&mut Random) -> Vec<u8>; 26] = [
     unknown_word,
     value::unknown_kind,
     operand_count,
@@ -32,6 +32,9 @@ const WAYS: [fn(&mut Random) -> Vec<u8>; 23] = [
     row::odd_sample,
     row::odd_joint,
     row::odd_row,
+    row::odd_pair,
+    row::odd_kind_of_samples,
+    row::odd_room,
 ];
 
 /// At most 200 bytes.
@@ -59,7 +62,7 @@ pub fn long(random: &mut Random) -> Vec<u8> {
 
 /// The fields of a case line that is well formed, its row no longer than 7.
 fn fields(random: &mut Random) -> Vec<Vec<u8>> {
-    if random.one_in(6) {
+    if random.one_in(5) {
         return row::fields(random);
     }
     value::fields(random)
@@ -137,6 +140,7 @@ fn word_of_another(random: &mut Random) -> Vec<u8> {
         "clamp",
         "rowclamp",
         "convert",
+        "row",
     ];
     let own = words.iter().position(|word| word.as_bytes() == fields[0]);
     // Any word of a pair stands for all of them.

@@ -2,7 +2,7 @@
 //! become the word of a line kind.
 
 /// In the place of the word.
-pub const WORDS: [&str; 26] = [
+pub const WORDS: [&str; 29] = [
     "",
     "-",
     "#",
@@ -23,6 +23,9 @@ pub const WORDS: [&str; 26] = [
     "try_from",
     "cast",
     "as",
+    "ro",
+    "rows",
+    "row_convert",
     "yes",
     "Less",
     "malformed",
@@ -85,7 +88,7 @@ pub const ENDS: [&str; 16] = [
     "\u{a0}", "\u{2028}",
 ];
 
-/// In the place of the digits of an f32.
+/// In the place of the digits of a sample. No kind has as many.
 pub const DIGITS: [&str; 19] = [
     "",
     "-",
@@ -102,7 +105,7 @@ pub const DIGITS: [&str; 19] = [
     "+3f80000",
     "-3f80000",
     "3ff0000000000000",
-    "3f80",
+    "3f8",
     "3f800000.",
     "\t3f800000",
     "3f80000\0",
@@ -116,4 +119,40 @@ pub const JOINTS: [&str; 12] = [
 /// In the place of a row.
 pub const ROWS: [&str; 12] = [
     "", ",", ",,", "--", "-,", ",-", "-,-", "- -", "[]", "()", "0", "none",
+];
+
+/// In the place of the length of a row.
+pub const LENGTHS: [&str; 32] = [
+    "",
+    "-",
+    "-0",
+    "-1",
+    "+0",
+    "+1",
+    "00",
+    "01",
+    "007",
+    "0256",
+    "00000000000000000000000000000001",
+    "8193",
+    "9999",
+    "10000",
+    "65536",
+    "65537",
+    "4294967296",
+    "4294967297",
+    "18446744073709551616",
+    "18446744073709551617",
+    "340282366920938463463374607431768211457",
+    "1.0",
+    "1.",
+    "1e0",
+    "0x1",
+    "1_0",
+    "1,",
+    "a",
+    "f",
+    "u8:01",
+    "1\0",
+    "\u{661}",
 ];

@@ -6,7 +6,7 @@ mod convert;
 
 use std::cmp::Ordering;
 
-pub use convert::convert;
+pub use convert::{convert, convert_row};
 
 use crate::value::{Kind, Value};
 

@@ -2,6 +2,7 @@
 
 mod choice;
 mod convert;
+mod row;
 
 use std::cmp::Ordering;
 

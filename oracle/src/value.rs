@@ -130,14 +130,27 @@ impl Value {
     }
 }
 
+/// No row of a case line has more samples.
+pub const LONGEST_ROW: usize = 8192;
+
 /// A row of samples, joined by commas; `-` is the empty row.
 pub fn parse_row(kind: Kind, text: &[u8]) -> Option<Vec<Value>> {
     if text == b"-" {
         return Some(Vec::new());
     }
-    text.split(|&byte| byte == b',')
+    let row: Option<Vec<Value>> = text
+        .split(|&byte| byte == b',')
         .map(|digits| Value::of_digits(kind, digits))
-        .collect()
+        .collect();
+    row.filter(|row| row.len() <= LONGEST_ROW)
+}
+
+/// The length of a row, in decimal as it is printed: no sign, and no zero in
+/// front.
+pub fn parse_length(text: &[u8]) -> Option<usize> {
+    let text = std::str::from_utf8(text).ok()?;
+    let length: usize = text.parse().ok()?;
+    (length <= LONGEST_ROW && length.to_string() == text).then_some(length)
 }
 
 pub fn row_text(row: &[Value]) -> String {
@@ -172,6 +185,7 @@ fn hex(digits: &[u8]) -> Option<u64> {
 #[cfg(test)]
 mod tests {
     use super::*;
+    use crate::odd;
     use crate::random::Random;
 
     #[test]
@@ -217,6 +231,21 @@ mod tests {
         ];
         for text in texts {
             assert_eq!(parse_row(Kind::U8, text.as_bytes()), None, "{text}");
+        }
+        let row = |length| row_text(&vec![Value::new(Kind::U8, 7); length]);
+        let read = |length| parse_row(Kind::U8, row(length).as_bytes());
+        assert_eq!(read(LONGEST_ROW).map(|row| row.len()), Some(LONGEST_ROW));
+        assert_eq!(read(LONGEST_ROW + 1), None);
+    }
+
+    #[test]
+    fn lengths() {
+        for length in [0, 1, 9, 10, 99, 100, 700, 1000, 8191, 8192] {
+            let text = length.to_string();
+            assert_eq!(parse_length(text.as_bytes()), Some(length));
+        }
+        for text in odd::LENGTHS {
+            assert_eq!(parse_length(text.as_bytes()), None, "{text}");
         }
     }
 }

@@ -25,6 +25,19 @@ pub fn convert(value: Value, to: Kind) -> Result<Value, Refused> {
     }
 }
 
+/// All of a row that fits its room, or the refusal of its first sample that is
+/// refused.
+pub fn convert_row(row: &[Value], to: Kind, room: usize) -> Result<Vec<Value>, Refused> {
+    if row.len() != room {
+        return Err((9, 0));
+    }
+    let mut converted = Vec::new();
+    for (place, &sample) in row.iter().enumerate() {
+        converted.push(convert(sample, to).map_err(|(number, _)| (number, place))?);
+    }
+    Ok(converted)
+}
+
 /// Nothing for an infinity.
 fn size_of_float(value: Value) -> Result<Option<Whole>, Refused> {
     let (abs, infinity) = (abs(value), infinity(value.kind));
