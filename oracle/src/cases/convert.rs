@@ -10,14 +10,33 @@ use crate::value::{Kind, Value};
 /// for.
 const LENGTHS: [u32; 12] = [1, 2, 8, 16, 23, 24, 25, 52, 53, 54, 63, 64];
 
-/// A value and a kind, seldom its own.
+/// The least and greatest magnitudes of f32, and where subnormals end.
+const F32_ENDS: [u64; 6] = [
+    0x0000_0001,
+    0x0000_0002,
+    0x007f_ffff,
+    0x0080_0000,
+    0x7f7f_fffe,
+    0x7f7f_ffff,
+];
+
+/// A value and a kind, now and then its own, and often f64 to f32.
 pub fn convert(random: &mut Random) -> String {
-    let from = any_kind(random);
-    let mut to = any_kind(random);
-    if to == from && !random.one_in(4) {
-        to = any_kind(random);
-    }
+    let [from, to] = match random.below(8) {
+        0 => [Kind::F64, Kind::F32],
+        1 => [random.pick(&Kind::ALL); 2],
+        _ => kinds_that_differ(random),
+    };
     format!("{} {}", source(random, from, to), to.name())
+}
+
+fn kinds_that_differ(random: &mut Random) -> [Kind; 2] {
+    loop {
+        let pair = [any_kind(random), any_kind(random)];
+        if pair[0] != pair[1] {
+            return pair;
+        }
+    }
 }
 
 /// A value of the first kind, often with a number that the second has or nearly
@@ -27,21 +46,37 @@ pub fn source(random: &mut Random, from: Kind, to: Kind) -> Value {
         let sign = random.pick(&[0, from.top()]);
         return Value::new(from, sign | edges::infinity(from));
     }
-    let near = match random.below(8) {
-        0..2 => return value(random, from),
-        2..5 => {
-            let wanted = number(random, to);
-            nearest(convert::number(wanted), from)
-        }
-        5 => nearest(Number::Integer(random.below(1001) as i128 - 500), from),
-        6 => nearest(Number::Integer(random.pick(&edges::whole_numbers())), from),
-        _ => nearest(odd_times_power(random), from),
+    let near = match (random.below(8), from.is_float(), to.is_float()) {
+        (0..2, ..) => return value(random, from),
+        (2..5, false, true) => odd_times_power(random, from),
+        (2..5, ..) => convert::number(number(random, to)),
+        (5..7, true, true) => end_of_f32(random),
+        (5, ..) => Number::Integer(random.below(1001) as i128 - 500),
+        (6, ..) => Number::Integer(random.pick(&edges::whole_numbers())),
+        _ => odd_times_power(random, from),
     };
-    if random.one_in(6) {
-        edges::neighbour(random, near)
+    let near = nearest(near, from);
+    if random.one_in(4) {
+        stepped(random, near)
     } else {
         near
     }
+}
+
+fn end_of_f32(random: &mut Random) -> Number {
+    let sign = random.pick(&[0, Kind::F32.top()]);
+    let end = random.pick(&F32_ENDS);
+    convert::number(Value::new(Kind::F32, sign | end))
+}
+
+/// The neighbour by bits, or one digit more or less elsewhere.
+fn stepped(random: &mut Random, value: Value) -> Value {
+    if random.one_in(2) {
+        return edges::neighbour(random, value);
+    }
+    let digit = 1u64 << random.below(value.kind.width() as usize);
+    let step = random.pick(&[digit, digit.wrapping_neg()]);
+    Value::new(value.kind, value.bits.wrapping_add(step))
 }
 
 /// The number as a value of a kind: rounded to a float; of an integer the low
@@ -58,17 +93,21 @@ pub fn nearest(number: Number, kind: Kind) -> Value {
     Value::new(kind, bits)
 }
 
-/// An odd number of some length times a power of two: a whole number, one with
-/// a fraction, or one near either end of a float kind's range.
-fn odd_times_power(random: &mut Random) -> Number {
-    let length = random.pick(&LENGTHS);
+/// An odd number of some length times a power of two. For an integer kind it
+/// has its width at most. For a float kind it may have a fraction, or be near
+/// either end of a range.
+fn odd_times_power(random: &mut Random, kind: Kind) -> Number {
+    let width = if kind.is_float() { 64 } else { kind.width() };
+    let length = random.pick(&LENGTHS).min(width);
     let odd = i128::from(random.next() >> (64 - length) | 1 << (length - 1) | 1);
     let odd = if random.one_in(2) { odd } else { -odd };
-    let exponent = match random.below(8) {
-        0..3 => return Number::Integer(odd << random.below(65 - length as usize)),
-        3..5 => random.below(20) as i32 - 16,
-        5 => random.below(5) as i32 + 126 - length as i32,
-        6 => random.below(40) as i32 - 155,
+    if !kind.is_float() || random.one_in(3) {
+        return Number::Integer(odd << random.below((width - length + 1) as usize));
+    }
+    let exponent = match random.below(5) {
+        0..2 => random.below(20) as i32 - 16,
+        2 => random.below(5) as i32 + 126 - length as i32,
+        3 => random.below(40) as i32 - 155,
         _ => random.below(2046) as i32 - 1074,
     };
     Number::Float(odd as f64 * power_of_two(exponent))

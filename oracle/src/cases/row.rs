@@ -95,12 +95,10 @@ fn refusals(pair: [Kind; 2]) -> &'static [u32] {
 
 /// A sample that converts, or is refused with a number.
 fn sample_with(random: &mut Random, [from, to]: [Kind; 2], refusal: Option<u32>) -> Value {
-    loop {
-        let sample = convert::source(random, from, to);
-        if converted(sample, to).err() == refusal {
-            return sample;
-        }
-    }
+    let mut samples = (0..100_000).map(|_| convert::source(random, from, to));
+    samples
+        .find(|&sample| converted(sample, to).err() == refusal)
+        .expect("such samples aren't rare")
 }
 
 fn room(random: &mut Random, length: usize) -> usize {
