@@ -4,12 +4,16 @@ use std::ffi::OsStr;
 use std::io::{self, BufRead, BufReader, BufWriter, Write};
 use std::process::{Child, ChildStdin, Command, Stdio};
 use std::thread;
+use std::time::{Instant, SystemTime, UNIX_EPOCH};
 
 use crate::cases::Cases;
 use crate::lines::{self, Judged, LINE_KINDS, MALFORMED};
 
 const SHOWN_DIFFERENCES: usize = 20;
 const SHOWN_BYTES: usize = 200;
+
+/// Cases of each seed of a long run.
+const SOAK_COUNT: usize = 1_000_000;
 
 /// One line without its newline; nothing at the end of the input. The last
 /// line may lack its newline.
@@ -34,12 +38,43 @@ pub fn write_cases(seed: u64, count: usize, out: &mut impl Write) -> io::Result<
 
 /// Answers whether the program agreed in all.
 pub fn compare(seed: u64, count: usize, program: &OsStr, out: &mut impl Write) -> io::Result<bool> {
+    let mut tally = Tally::new();
+    let well = compare_seed(seed, count, program, &mut tally, out)?;
+    tally.report(out)?;
+    Ok(well)
+}
+
+/// Seed after seed, from one that is new at every run, until the time is over
+/// or the program disagrees.
+pub fn soak(seconds: u64, program: &OsStr, out: &mut impl Write) -> io::Result<bool> {
+    let start = Instant::now();
+    let now = SystemTime::now().duration_since(UNIX_EPOCH);
+    let mut seed = now.map_or(0, |since| since.as_secs());
+    let mut tally = Tally::new();
+    let mut well = true;
+    while well && start.elapsed().as_secs() < seconds {
+        writeln!(out, "seed {seed}, {SOAK_COUNT} cases")?;
+        out.flush()?;
+        well = compare_seed(seed, SOAK_COUNT, program, &mut tally, out)?;
+        seed += 1;
+    }
+    tally.report(out)?;
+    Ok(well)
+}
+
+/// Adds to the tally, and answers whether the program agreed in all.
+fn compare_seed(
+    seed: u64,
+    count: usize,
+    program: &OsStr,
+    tally: &mut Tally,
+    out: &mut impl Write,
+) -> io::Result<bool> {
     let mut child = start(program)?;
     let input = child.stdin.take().expect("a piped input");
     let mut answers = BufReader::new(child.stdout.take().expect("a piped output"));
     let writer = thread::spawn(move || feed(seed, count, input));
 
-    let mut tally = Tally::new();
     // The writer makes its own cases from the same seed.
     for case in Cases::new(seed).take(count) {
         tally.judge(&case, read_line(&mut answers)?, out)?;
@@ -59,7 +94,6 @@ pub fn compare(seed: u64, count: usize, program: &OsStr, out: &mut impl Write) -
     if !status.success() {
         writeln!(out, "the program ended with {status}")?;
     }
-    tally.report(count, out)?;
     Ok(tally.differ == 0 && !too_many && status.success())
 }
 
@@ -116,7 +150,8 @@ impl Tally {
         writeln!(out, "{} / {} / {got}", shown(case, 0), shown(wanted, from))
     }
 
-    fn report(&self, count: usize, out: &mut impl Write) -> io::Result<()> {
+    fn report(&self, out: &mut impl Write) -> io::Result<()> {
+        let count = self.malformed + self.per_line_kind.iter().sum::<usize>();
         writeln!(out, "{count} cases, {} differ", self.differ)?;
         for (line_kind, count) in LINE_KINDS.iter().zip(self.per_line_kind) {
             write!(out, "{} {count}, ", line_kind.word)?;

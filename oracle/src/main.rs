@@ -25,6 +25,7 @@ usage: oracle cases SEED COUNT            case lines made from a seed
        oracle fixed                       the fixed list of case lines
        oracle answers                     answers to the case lines on standard input
        oracle compare SEED COUNT PROGRAM  a program's answers against ours
+       oracle soak SECONDS PROGRAM        the same, seed after seed for that time
 ";
 
 enum Command<'a> {
@@ -32,6 +33,7 @@ enum Command<'a> {
     Fixed,
     Answers,
     Compare(u64, usize, &'a OsStr),
+    Soak(u64, &'a OsStr),
 }
 
 fn main() -> ExitCode {
@@ -61,6 +63,7 @@ fn command(arguments: &[OsString]) -> Option<Command<'_>> {
         ("compare", [seed, count, program]) => {
             Some(Command::Compare(number(seed)?, number(count)?, program))
         }
+        ("soak", [seconds, program]) => Some(Command::Soak(number(seconds)?, program)),
         _ => None,
     }
 }
@@ -91,6 +94,7 @@ fn run(command: Command) -> io::Result<bool> {
             true
         }
         Command::Compare(seed, count, program) => check::compare(seed, count, program, &mut out)?,
+        Command::Soak(seconds, program) => check::soak(seconds, program, &mut out)?,
     };
     out.flush()?;
     Ok(well)
