@@ -1,41 +1,62 @@
--- What a row answers and leaves, where a test tells which samples are refused.
+-- What a row answers and leaves: a rule of the whole row comes first, then a test tells which samples are refused.
 use mathlib.Core.Path.{_≡_, refl, sym, _∙_, ap}
 use mathlib.Core.Bool.{Bool, true, false, cond}
 use mathlib.Core.List.{List, [], _∷_, map}
-use Prim.Native.Nat.{ℕ, zero, suc, _+_, _<_}
-use native.Mathlib.Nat.{not-suc-le-zero}
+use Prim.Native.Nat.{ℕ, zero, suc, _+_, _≤_, _<_}
+use native.Mathlib.Nat.{not-suc-le-zero, zero-add}
 use native.Mathlib.Omega.{arith}
 use lib.ListN.{length, getD}
-use Rattle.value.specs.Outcome.{Outcome, gives, refuses, Success, done}
-use Rattle.row.specs.Row.{rowAnswer, rowResults, first, sampleThen, sampleBefore}
+use Rattle.value.specs.Outcome.{Outcome, gives, refuses, refuseIf, Success, done}
+use Rattle.row.specs.Row.{rowAnswer, rowResults, rowExit, first, sampleThen, sampleBefore}
+use Rattle.row.proofs.Scan.{first-le}
 
--- conv refuses with n the samples that pass the test, and gives f of the others; P holds of every sample of the row
-module _ {A B : Type 0} (conv : A → Outcome B) (test : A → Bool) (f : A → B) (n : ℕ) (P : A → Type 0) (d : A)
-    (bad : (x : A) → P x → test x ≡ true → conv x ≡ refuses n 0) (good : (x : A) → P x → test x ≡ false → conv x ≡ gives (f x)) where
+-- what is answered where the row as a whole is refused with a number by a rule, and what the lent row holds after an answer
+module _ {A B : Type 0} (conv : A → Outcome B) (s : List A) where
+  abbrev pub ruledAnswer : Bool → ℕ → Outcome Success
+  ruledAnswer rule number = refuseIf rule number 0 (rowAnswer conv 0 s)
+
+  abbrev pub leftAfter : List B → Outcome Success → List B
+  leftAfter old answer = rowExit answer (rowResults conv s) old
+
+  -- the rule of the whole row
+  pub row-ruled : (rule : Bool) (number : ℕ) (old : List B) → rule ≡ true → (refuses number 0 ≡ ruledAnswer rule number) × (old ≡ leftAfter old (ruledAnswer rule number))
+  row-ruled rule number old q =
+      let o : ruledAnswer rule number ≡ refuses number 0 = ap (λ (b : Bool). ruledAnswer b number) q in
+      (sym o, sym (ap (leftAfter old) o))
+
+-- conv refuses with its number a sample that passes the test, and gives f of any other; P holds of every sample of the row
+module _ {A B : Type 0} (conv : A → Outcome B) (test : A → Bool) (f : A → B) (number : A → ℕ) (P : A → Type 0) (d : A)
+    (bad : (x : A) → P x → test x ≡ true → conv x ≡ refuses (number x) 0) (good : (x : A) → P x → test x ≡ false → conv x ≡ gives (f x)) where
   abbrev All : List A → Type 0
   All s = (i : ℕ) → i < length s → P (getD s i d)
 
   tail : (x : A) (xs : List A) → All (x ∷ xs) → All xs
   tail x xs p i h = p (suc i) (omega arith)
 
-  refused-step : (at : ℕ) (x : A) (xs : List A) → P x → (b : Bool) → test x ≡ b → cond b 0 (suc (first test xs)) < suc (length xs)
-      → (first test xs < length xs → rowAnswer conv (suc at) xs ≡ refuses n (suc at + first test xs))
-      → sampleThen at (conv x) (rowAnswer conv (suc at) xs) ≡ refuses n (at + cond b 0 (suc (first test xs)))
-  refused-step at x xs p true q k rest = ap (λ o. sampleThen at o (rowAnswer conv (suc at) xs)) (bad x p q) ∙ ap (λ (m : ℕ). refuses n m) (omega arith)
-  refused-step at x xs p false q k rest =
-      ap (λ o. sampleThen at o (rowAnswer conv (suc at) xs)) (good x p q) ∙ rest (omega arith) ∙ ap (λ (m : ℕ). refuses n m) (omega arith)
+  -- ---- a sample is refused
 
-  pub row-refused : (at : ℕ) (s : List A) → All s → first test s < length s → rowAnswer conv at s ≡ refuses n (at + first test s)
+  abbrev firstRefusal : ℕ → List A → ℕ → Outcome Success
+  firstRefusal at s i = refuses (number (getD s i d)) (at + i)
+
+  refused-step : (at : ℕ) (x : A) (xs : List A) → P x → (b : Bool) → test x ≡ b → cond b 0 (suc (first test xs)) < suc (length xs)
+      → (first test xs < length xs → rowAnswer conv (suc at) xs ≡ firstRefusal (suc at) xs (first test xs))
+      → sampleThen at (conv x) (rowAnswer conv (suc at) xs) ≡ firstRefusal at (x ∷ xs) (cond b 0 (suc (first test xs)))
+  refused-step at x xs p true q k rest = ap (λ o. sampleThen at o (rowAnswer conv (suc at) xs)) (bad x p q) ∙ ap (λ (m : ℕ). refuses (number x) m) (omega arith)
+  refused-step at x xs p false q k rest =
+      ap (λ o. sampleThen at o (rowAnswer conv (suc at) xs)) (good x p q) ∙ rest (omega arith) ∙ ap (λ (m : ℕ). refuses (number (getD xs (first test xs) d)) m) (omega arith)
+
+  row-refused : (at : ℕ) (s : List A) → All s → first test s < length s → rowAnswer conv at s ≡ firstRefusal at s (first test s)
   unfolding rowAnswer first
   row-refused at [] p h = absurd (not-suc-le-zero h)
   row-refused at (x ∷ xs) p h = refused-step at x xs (p 0 (omega arith)) (test x) refl h (row-refused (suc at) xs (tail x xs p))
 
-  -- no sample is refused
+  -- ---- no sample is refused
+
   none-first : (b : Bool) (k m : ℕ) → cond b 0 (suc k) ≡ suc m → (b ≡ false) × (k ≡ m)
   none-first true k m h = absurd (omega arith)
   none-first false k m h = (refl, omega arith)
 
-  pub row-done : (at : ℕ) (s : List A) → All s → first test s ≡ length s → (rowAnswer conv at s ≡ gives done) × (rowResults conv s ≡ map f s)
+  row-done : (at : ℕ) (s : List A) → All s → first test s ≡ length s → (rowAnswer conv at s ≡ gives done) × (rowResults conv s ≡ map f s)
   unfolding rowAnswer rowResults first
   row-done at [] p h = (refl, refl)
   row-done at (x ∷ xs) p h =
@@ -43,3 +64,21 @@ module _ {A B : Type 0} (conv : A → Outcome B) (test : A → Bool) (f : A → 
       let g = good x (p 0 (omega arith)) (c .0) in
       let r = row-done (suc at) xs (tail x xs p) (c .1) in
       (ap (λ o. sampleThen at o (rowAnswer conv (suc at) xs)) g ∙ r .0, ap (λ o. sampleBefore o (rowResults conv xs)) g ∙ ap (λ l. f x ∷ l) (r .1))
+
+  -- ---- a row that its rule lets pass, with what the looking pass found
+
+  module _ (rule : Bool) (n : ℕ) (s : List A) (old : List B) (pass : rule ≡ false) (all : All s) (at : ℕ) (at-is : at ≡ first test s) where
+    passed : ruledAnswer conv s rule n ≡ rowAnswer conv 0 s
+    passed = ap (λ (b : Bool). ruledAnswer conv s b n) pass
+
+    pub sample-refused : at < length s → (m : ℕ) → m ≡ number (getD s at d) → (refuses m at ≡ ruledAnswer conv s rule n) × (old ≡ leftAfter conv s old (ruledAnswer conv s rule n))
+    sample-refused l m m-is =
+        let r : rowAnswer conv 0 s ≡ firstRefusal 0 s (first test s) = row-refused 0 s all (omega arith) in
+        let o : ruledAnswer conv s rule n ≡ refuses m at = passed ∙ r ∙ cc (zero-add (first test s), at-is, m-is) in
+        (sym o, sym (ap (leftAfter conv s old) o))
+
+    pub all-done : (now : List B) → length s ≤ at → now ≡ map f s → (gives done ≡ ruledAnswer conv s rule n) × (now ≡ leftAfter conv s old (ruledAnswer conv s rule n))
+    all-done now l q =
+        let r = row-done 0 s all (omega (arith, first-le test s)) in
+        let o : ruledAnswer conv s rule n ≡ gives done = passed ∙ r .0 in
+        (sym o, q ∙ sym (r .1) ∙ sym (ap (leftAfter conv s old) o))
