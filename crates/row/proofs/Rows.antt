@@ -8,7 +8,7 @@ use native.Mathlib.Omega.{arith}
 use lib.ListN.{length, getD}
 use Rattle.value.specs.Outcome.{Outcome, gives, refuses, refuseIf, Success, done}
 use Rattle.row.specs.Row.{rowAnswer, rowResults, rowExit, first, sampleThen, sampleBefore}
-use Rattle.row.proofs.Scan.{first-le}
+use Rattle.row.proofs.Scan.{first-all, none-at}
 
 -- what is answered where the row as a whole is refused with a number by a rule, and what the lent row holds after an answer
 module _ {A B : Type 0} (conv : A → Outcome B) (s : List A) where
@@ -52,15 +52,11 @@ module _ {A B : Type 0} (conv : A → Outcome B) (test : A → Bool) (f : A → 
 
   -- ---- no sample is refused
 
-  none-first : (b : Bool) (k m : ℕ) → cond b 0 (suc k) ≡ suc m → (b ≡ false) × (k ≡ m)
-  none-first true k m h = absurd (omega arith)
-  none-first false k m h = (refl, omega arith)
-
   row-done : (at : ℕ) (s : List A) → All s → first test s ≡ length s → (rowAnswer conv at s ≡ gives done) × (rowResults conv s ≡ map f s)
   unfolding rowAnswer rowResults first
   row-done at [] p h = (refl, refl)
   row-done at (x ∷ xs) p h =
-      let c = none-first (test x) (first test xs) (length xs) h in
+      let c = none-at test (test x) (first test xs) (length xs) h in
       let g = good x (p 0 (omega arith)) (c .0) in
       let r = row-done (suc at) xs (tail x xs p) (c .1) in
       (ap (λ o. sampleThen at o (rowAnswer conv (suc at) xs)) g ∙ r .0, ap (λ o. sampleBefore o (rowResults conv xs)) g ∙ ap (λ l. f x ∷ l) (r .1))
@@ -79,6 +75,6 @@ module _ {A B : Type 0} (conv : A → Outcome B) (test : A → Bool) (f : A → 
 
     pub all-done : (now : List B) → length s ≤ at → now ≡ map f s → (gives done ≡ ruledAnswer conv s rule n) × (now ≡ leftAfter conv s old (ruledAnswer conv s rule n))
     all-done now l q =
-        let r = row-done 0 s all (omega (arith, first-le test s)) in
+        let r = row-done 0 s all (first-all test s at at-is l) in
         let o : ruledAnswer conv s rule n ≡ gives done = passed ∙ r .0 in
         (sym o, q ∙ sym (r .1) ∙ sym (ap (leftAfter conv s old) o))

@@ -38,6 +38,21 @@ module _ {A : Type 0} (test : A → Bool) where
   first-le [] = omega arith
   first-le (x ∷ xs) = first-within (test x) (first test xs) (length xs) (first-le xs)
 
+  -- a scan that came to the end met none
+  pub first-all : (s : List A) (at : ℕ) → at ≡ first test s → length s ≤ at → first test s ≡ length s
+  first-all s at q h = omega (arith, first-le s)
+
+  -- where none passes, the one at i doesn't
+  pub none-at : (b : Bool) (k n : ℕ) → cond b 0 (suc k) ≡ suc n → (b ≡ false) × (k ≡ n)
+  none-at true k n h = absurd (omega arith)
+  none-at false k n h = (refl, omega arith)
+
+  pub first-none : (s : List A) (i : ℕ) (d : A) → first test s ≡ length s → i < length s → test (getD s i d) ≡ false
+  unfolding first
+  first-none [] i d q h = absurd (not-suc-le-zero h)
+  first-none (x ∷ xs) zero d q h = none-at (test x) (first test xs) (length xs) q .0
+  first-none (x ∷ xs) (suc i) d q h = first-none xs i d (none-at (test x) (first test xs) (length xs) q .1) (le-of-suc-le-suc h)
+
   -- the scan from a place on has come to i: its turn, and its two ways out
   abbrev pub Reached : ℕ → List A → ℕ → Type 0
   Reached from s i = (i ≤ length s) × (from + first test (drop from s) ≡ i + first test (drop i s))
@@ -101,3 +116,9 @@ module _ {A : Type 0} (test : A → Bool) where
 
   pub any-end : (s : List A) (i : ℕ) → length s ≤ i → any test (take i s) ≡ any test s
   any-end s i h = ap (any test) (take-all i s h)
+
+-- a test that no sample passes
+pub first-never : {A : Type 0} (s : List A) → first (λ x. false) s ≡ length s
+unfolding first
+first-never [] = refl
+first-never (x ∷ xs) = ap suc (first-never xs)

@@ -1,0 +1,75 @@
+-- One sample into an unsigned kind of k bits: a fraction is 3, a whole number out of its range 4, and any other is given.
+use mathlib.Core.Path.{_≡_, refl, sym, _∙_, ap}
+use mathlib.Core.Bool.{Bool, true, false, not}
+use mathlib.Core.List.{List, map}
+use Prim.Native.Nat.{ℕ, _-_, _*_, _/_, _%_, _^_, _≤_, _<_}
+use native.Mathlib.Nat.{mul-div-cancel, mul-mod-left}
+use native.Mathlib.Omega.{arith}
+use borrow.Author.Tests.{eq-eqb, ne-eqb, lt-ltb, le-ltb}
+use lib.ListN.{length}
+use lib.Pow.{pow-pos}
+use Rattle.float.specs.Number.{Exact, finite}
+use Rattle.value.specs.declared.Kind.{Kind}
+use Rattle.value.specs.declared.Kind.the-variants as kind
+use Rattle.value.specs.Kinds.{unsigned, formOf}
+use Rattle.value.specs.Meaning.{bitsOf, unit}
+use Rattle.value.specs.Outcome.{gives, refuses, mapped, done}
+use Rattle.convert.specs.Convert.{outside, magnitudeFor, madeIn, intoOf, convertOf}
+use Rattle.row.specs.Row.{first}
+use Rattle.row.specs.Convert.{u8ToU16, u16ToU8, isWide}
+use Rattle.row.proofs.ConvertRow.{Answers, convert-refused, convert-done}
+
+-- ---- a kind whose values are numbers of k bits
+
+module _ (to : Kind) (k : ℕ) (form : formOf to ≡ unsigned k) (s : Bool) where
+  pub into-fraction : (m : ℕ) → (m % unit ≡ 0 → ⊥) → intoOf to (finite s m) ≡ refuses 3 0
+  unfolding intoOf
+  into-fraction m h = simp (form, ne-eqb (m % unit) 0 h)
+
+  -- n whole units
+  module _ (n : ℕ) where
+    no-rest : n * unit % unit ≡ 0
+    no-rest = mul-mod-left n unit
+
+    all-units : n * unit / unit ≡ n
+    unfolding unit
+    all-units = mul-div-cancel n (pow-pos 1074)
+
+    pub into-outside : outside 0 (2 ^ k - 1) s n ≡ true → intoOf to (finite s (n * unit)) ≡ refuses 4 0
+    unfolding intoOf
+    into-outside h = simp (form, eq-eqb (n * unit % unit) 0 no-rest, all-units, h)
+
+    pub into-inside : ((x : Exact) → bitsOf (madeIn to x) ≡ magnitudeFor x) → outside 0 (2 ^ k - 1) s n ≡ false → mapped bitsOf (intoOf to (finite s (n * unit))) ≡ gives n
+    unfolding intoOf
+    into-inside made h = simp (form, eq-eqb (n * unit % unit) 0 no-rest, all-units, h) (ap gives (made (finite s (n * unit)) ∙ all-units))
+
+pub u8-made : (x : Exact) → bitsOf (madeIn kind.U8 x) ≡ magnitudeFor x
+unfolding madeIn
+u8-made x = refl
+
+pub u16-made : (x : Exact) → bitsOf (madeIn kind.U16 x) ≡ magnitudeFor x
+unfolding madeIn
+u16-made x = refl
+
+-- ---- the samples
+
+pub u8-wider : (n : ℕ) → n < 2 ^ 8 → u8ToU16 n ≡ gives n
+unfolding u8ToU16 convertOf
+u8-wider n h = into-inside kind.U16 16 refl false n u16-made (le-ltb (2 ^ 16 - 1) n (omega arith))
+
+u16-narrower : (n : ℕ) → isWide n ≡ false → u16ToU8 n ≡ gives n
+unfolding u16ToU8 convertOf
+u16-narrower n h = into-inside kind.U8 8 refl false n u8-made h
+
+u16-wide : (n : ℕ) → isWide n ≡ true → u16ToU8 n ≡ refuses 4 0
+unfolding u16ToU8 convertOf
+u16-wide n h = ap (mapped bitsOf) (into-outside kind.U8 8 refl false n h)
+
+-- ---- a row of u16 to u8
+
+module _ (src dst : List ℕ) (same : length src ≡ length dst) (at : ℕ) (at-is : at ≡ first isWide src) where
+  pub narrow-refused : at < length src → Answers u16ToU8 src dst (refuses 4 at) dst
+  narrow-refused l = convert-refused u16ToU8 src dst isWide (λ n. n) (λ n. 4) (λ n. Unit {0}) 0 (λ n t. u16-wide n) (λ n t. u16-narrower n) same (λ i h. tt) at at-is l 4 refl
+
+  pub narrow-done : (now : List ℕ) → length src ≤ at → now ≡ map (λ (n : ℕ). n) src → Answers u16ToU8 src dst (gives done) now
+  narrow-done = convert-done u16ToU8 src dst isWide (λ n. n) (λ n. 4) (λ n. Unit {0}) 0 (λ n t. u16-wide n) (λ n t. u16-narrower n) same (λ i h. tt) at at-is

@@ -1,0 +1,58 @@
+-- The conversion of a row into a second row. RULES.md: Exact conversion, Refusals.
+use Prim.Native.Nat.{ℕ, _+_}
+use mathlib.Core.Bool.{Bool, not}
+use mathlib.Core.List.{List}
+use lib.Dec.{eqb, ltb}
+use lib.IntN.{pos}
+use lib.ListN.{length}
+use lib.Ieee.{Float, nan, binary32, ofInt}
+use Rattle.value.specs.declared.Kind.the-variants as kind
+use Rattle.value.specs.declared.Value.{Value}
+use Rattle.value.specs.declared.Value.the-variants.{U8, U16, F32}
+use Rattle.value.specs.Meaning.{Content, natural, integer, real, contentOf, bitsOf}
+use Rattle.value.specs.Outcome.{Outcome, mapped, refuseIf, Success}
+use Rattle.convert.specs.Convert.{convertOf}
+use Rattle.row.specs.Row.{rowAnswer, rowResults, rowExit}
+
+-- ---- one sample
+
+-- the float that a value of a float kind carries
+abbrev pub floatIn : Content → Float
+floatIn (natural k n) = nan
+floatIn (integer k z) = nan
+floatIn (real f x w) = x
+
+abbrev pub floatOf : Value → Float
+floatOf v = floatIn (contentOf v)
+
+-- a sample of an unsigned kind is its bits, one of f32 its float
+unfoldable pub u8ToU16 : ℕ → Outcome ℕ
+u8ToU16 n = mapped bitsOf (convertOf (U8 n) kind.U16)
+
+unfoldable pub u16ToU8 : ℕ → Outcome ℕ
+u16ToU8 n = mapped bitsOf (convertOf (U16 n) kind.U8)
+
+unfoldable pub u16ToF32 : ℕ → Outcome Float
+u16ToF32 n = mapped floatOf (convertOf (U16 n) kind.F32)
+
+unfoldable pub f32ToU16 : Float → Outcome ℕ
+f32ToU16 x = mapped bitsOf (convertOf (F32 x 0) kind.U16)
+
+-- ---- the row
+
+-- lengths that differ are 9; then the first sample that is refused decides
+unfoldable pub convertAnswer : {A B : Type 0} → (A → Outcome B) → List A → List B → Outcome Success
+convertAnswer conv src dst = refuseIf (not (eqb (length src) (length dst))) 9 0 (rowAnswer conv 0 src)
+
+unfoldable pub convertExit : {A B : Type 0} → (A → Outcome B) → List A → List B → List B
+convertExit conv src dst = rowExit (convertAnswer conv src dst) (rowResults conv src) dst
+
+-- ---- what the passes compute, by the language's own operators
+
+-- a u16 that no u8 has the number of
+abbrev pub isWide : ℕ → Bool
+isWide n = ltb 255 n
+
+-- the cast `n as f32`
+abbrev pub asF32 : ℕ → Float
+asF32 n = ofInt binary32 (pos n)
