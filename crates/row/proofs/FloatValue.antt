@@ -48,17 +48,16 @@ module _ (f : Format) (x : Float) (s : Bool) (a : ℕ) (h : T (fits f x)) where
   pub pattern-value : patternOf (fractionOf f) (exponentOf f) (toBits f x) ≡ finite s a → HasValue x s a (2 ^ low f)
   pattern-value q = value-means f s a (float-means f x h) q
 
--- a whole number in steps and in ones
-pub in-steps : (x : Float) (s : Bool) (n l : ℕ) → HasValue x s n 1 → HasValue x s (n * 2 ^ l) (2 ^ l)
-in-steps nan s n l v = v
-in-steps (inf t) s n l v = v
-in-steps (fin t m e) s n l v = (v .0, ap (λ (k : ℕ). k * 2 ^ l) (sym (mul-one (m * up e)) ∙ v .1) ∙ mul-right-comm n (down e) (2 ^ l))
+-- a whole number over 1 and over any other k
+pub over-more : (x : Float) (s : Bool) (n k : ℕ) → HasValue x s n 1 → HasValue x s (n * k) k
+over-more nan s n k v = v
+over-more (inf t) s n k v = v
+over-more (fin t m e) s n k v = (v .0, ap (λ (j : ℕ). j * k) (sym (mul-one (m * up e)) ∙ v .1) ∙ mul-right-comm n (down e) k)
 
-pub in-ones : (x : Float) (s : Bool) (n l : ℕ) → HasValue x s (n * 2 ^ l) (2 ^ l) → HasValue x s n 1
-in-ones nan s n l v = v
-in-ones (inf t) s n l v = v
-in-ones (fin t m e) s n l v =
-    (v .0, mul-one (m * up e) ∙ eq-of-mul-eq-mul-right (2 ^ l) (pow-pos l) (m * up e) (n * down e) (v .1 ∙ mul-right-comm n (2 ^ l) (down e)))
+pub over-one : (x : Float) (s : Bool) (n k : ℕ) → 0 < k → HasValue x s (n * k) k → HasValue x s n 1
+over-one nan s n k p v = v
+over-one (inf t) s n k p v = v
+over-one (fin t m e) s n k p v = (v .0, mul-one (m * up e) ∙ eq-of-mul-eq-mul-right k p (m * up e) (n * down e) (v .1 ∙ mul-right-comm n k (down e)))
 
 -- ---- the fields of a finite pattern
 
@@ -96,7 +95,7 @@ module _ (n : ℕ) (small : n < 2 ^ 16) where
   cast-value = round-whole binary32 false n (omega arith)
 
   cast-pattern : patternOf 23 8 bits ≡ finite false (n * 2 ^ 149)
-  cast-pattern = value-pattern binary32 (asF32 n) false (n * 2 ^ 149) cast-fits (in-steps (asF32 n) false n 149 cast-value)
+  cast-pattern = value-pattern binary32 (asF32 n) false (n * 2 ^ 149) cast-fits (over-more (asF32 n) false n (2 ^ 149) cast-value)
 
   encoded : encodeOf binary32 (n * unit) ≡ bits
   encoded =

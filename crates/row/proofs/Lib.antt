@@ -5,4 +5,5 @@ pub mod ClampRow
 pub mod ConvertRow
 pub mod IntoUnsigned
 pub mod FloatValue
+pub mod WholeTest
 pub mod Determined
