@@ -14,6 +14,7 @@ use Rattle.cmp.specs.Choose.{sampleOrder, sampleOf}
 use Rattle.cmp.proofs.Samples.{sample-nan, sample-lower, sample-upper, sample-self}
 use Rattle.row.specs.Row.{first}
 use Rattle.row.specs.Clamp.{isNotSelf, between, clampAnswer, clampExit}
+use Rattle.row.proofs.Scan.{first-hit}
 use Rattle.row.proofs.Rows.{row-ruled, sample-refused, all-done}
 
 -- every sample is a float of its format, as all that a program holds are
@@ -47,9 +48,9 @@ module _ (range : Range) (hl : T (fits binary32 (range .lower))) (hu : T (fits b
       pub clamp-row-refused : at < length row → (refuses 8 at ≡ clampAnswer range row) × (row ≡ clampExit range row)
       unfolding clampAnswer clampExit
       clamp-row-refused l =
-          sample-refused (sampleOf range) isNotSelf (between (range .lower) (range .upper)) (λ x. 8) (λ x. T (fits binary32 x)) nan bad good outOfOrder 6 row row (by-operator b) all at at-is l 8 refl
+          sample-refused (sampleOf range) isNotSelf (between (range .lower) (range .upper)) (λ x. T (fits binary32 x)) nan good outOfOrder 6 row row (by-operator b) all at at-is l 8 0 (bad (getD row at nan) (all at l) (first-hit isNotSelf row at nan at-is l))
 
       pub clamp-row-done : (now : List Float) → length row ≤ at → now ≡ map (between (range .lower) (range .upper)) row → (gives done ≡ clampAnswer range row) × (now ≡ clampExit range row)
       unfolding clampAnswer clampExit
       clamp-row-done now l q =
-          all-done (sampleOf range) isNotSelf (between (range .lower) (range .upper)) (λ x. 8) (λ x. T (fits binary32 x)) nan bad good outOfOrder 6 row row (by-operator b) all at at-is now l q
+          all-done (sampleOf range) isNotSelf (between (range .lower) (range .upper)) (λ x. T (fits binary32 x)) nan good outOfOrder 6 row row (by-operator b) all at at-is now l q

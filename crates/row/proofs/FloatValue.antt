@@ -7,7 +7,7 @@ use native.Mathlib.Omega.{arith}
 use lib.Dec.{T}
 use lib.Pow.{pow-pos, pow-add}
 use lib.IntN.{pos}
-use lib.Ieee.{Float, nan, inf, fin, Format, binary32, low, up, down, fits, toBits, ofBits, ofInt}
+use lib.Ieee.{Float, nan, inf, fin, Format, binary32, low, top, up, down, fits, toBits, ofBits, ofInt}
 use lib.Ieee.Bits.{ofBits-toBits, toBits-lt}
 use lib.Ieee.Exact.{HasValue}
 use lib.Ieee.Fits.{ofInt-fits, down-pos}
@@ -16,7 +16,7 @@ use Rattle.float.specs.Format.{fractionOf, exponentOf, infOf, negativeOf, absOf
 use Rattle.float.specs.Number.{Exact, notNumber, infinite, finite, times}
 use Rattle.float.specs.Number as float-number
 use Rattle.float.specs.Order.{patternOf}
-use Rattle.float.proofs.Language.{Means, means-nan, means-inf, means-fin, float-means}
+use Rattle.float.proofs.Language.{Means, means-nan, means-inf, means-fin, pattern-means, float-means}
 use Rattle.value.specs.declared.Kind.the-variants as kind
 use Rattle.value.specs.declared.Value.the-variants.{U16}
 use Rattle.value.specs.Meaning.{numberOf, unit, stepOf, valueOf}
@@ -47,6 +47,9 @@ module _ (f : Format) (x : Float) (s : Bool) (a : ℕ) (h : T (fits f x)) where
 
   pub pattern-value : patternOf (fractionOf f) (exponentOf f) (toBits f x) ≡ finite s a → HasValue x s a (2 ^ low f)
   pattern-value q = value-means f s a (float-means f x h) q
+
+pub bits-value : (f : Format) (b : ℕ) (s : Bool) (a : ℕ) → b < 2 * top f → patternOf (fractionOf f) (exponentOf f) b ≡ finite s a → HasValue (ofBits f b) s a (2 ^ low f)
+bits-value f b s a h q = value-means f s a (pattern-means f b h) q
 
 -- a whole number over 1 and over any other k
 pub over-more : (x : Float) (s : Bool) (n k : ℕ) → HasValue x s n 1 → HasValue x s (n * k) k

@@ -6,7 +6,7 @@ use Prim.Native.Nat.{ℕ, _-_, _*_, _/_, _%_, _^_, _≤_, _<_}
 use native.Mathlib.Nat.{mul-div-cancel, mul-mod-left}
 use native.Mathlib.Omega.{arith}
 use borrow.Author.Tests.{eq-eqb, ne-eqb, lt-ltb, le-ltb}
-use lib.ListN.{length}
+use lib.ListN.{length, getD}
 use lib.Pow.{pow-pos}
 use Rattle.float.specs.Number.{Exact, finite}
 use Rattle.value.specs.declared.Kind.{Kind}
@@ -17,6 +17,7 @@ use Rattle.value.specs.Outcome.{gives, refuses, mapped, done}
 use Rattle.convert.specs.Convert.{outside, magnitudeFor, madeIn, intoOf, convertOf}
 use Rattle.row.specs.Row.{first}
 use Rattle.row.specs.Convert.{u8ToU16, u16ToU8, isWide}
+use Rattle.row.proofs.Scan.{first-hit}
 use Rattle.row.proofs.ConvertRow.{Answers, convert-refused, convert-done}
 
 -- ---- a kind whose values are numbers of k bits
@@ -69,7 +70,7 @@ u16-wide n h = ap (mapped bitsOf) (into-outside kind.U8 8 refl false n h)
 
 module _ (src dst : List ℕ) (same : length src ≡ length dst) (at : ℕ) (at-is : at ≡ first isWide src) where
   pub narrow-refused : at < length src → Answers u16ToU8 src dst (refuses 4 at) dst
-  narrow-refused l = convert-refused u16ToU8 src dst isWide (λ n. n) (λ n. 4) (λ n. Unit {0}) 0 (λ n t. u16-wide n) (λ n t. u16-narrower n) same (λ i h. tt) at at-is l 4 refl
+  narrow-refused l = convert-refused u16ToU8 src dst isWide (λ n. n) (λ n. Unit {0}) 0 (λ n t. u16-narrower n) same (λ i h. tt) at at-is l 4 0 (u16-wide (getD src at 0) (first-hit isWide src at 0 at-is l))
 
   pub narrow-done : (now : List ℕ) → length src ≤ at → now ≡ map (λ (n : ℕ). n) src → Answers u16ToU8 src dst (gives done) now
-  narrow-done = convert-done u16ToU8 src dst isWide (λ n. n) (λ n. 4) (λ n. Unit {0}) 0 (λ n t. u16-wide n) (λ n t. u16-narrower n) same (λ i h. tt) at at-is
+  narrow-done = convert-done u16ToU8 src dst isWide (λ n. n) (λ n. Unit {0}) 0 (λ n t. u16-narrower n) same (λ i h. tt) at at-is

@@ -6,4 +6,6 @@ pub mod ConvertRow
 pub mod IntoUnsigned
 pub mod FloatValue
 pub mod WholeTest
+pub mod WholeFloats
+pub mod IntoU16
 pub mod Determined

@@ -24,33 +24,30 @@ module _ {A B : Type 0} (conv : A → Outcome B) (s : List A) where
       let o : ruledAnswer rule number ≡ refuses number 0 = ap (λ (b : Bool). ruledAnswer b number) q in
       (sym o, sym (ap (leftAfter old) o))
 
--- conv refuses with its number a sample that passes the test, and gives f of any other; P holds of every sample of the row
-module _ {A B : Type 0} (conv : A → Outcome B) (test : A → Bool) (f : A → B) (number : A → ℕ) (P : A → Type 0) (d : A)
-    (bad : (x : A) → P x → test x ≡ true → conv x ≡ refuses (number x) 0) (good : (x : A) → P x → test x ≡ false → conv x ≡ gives (f x)) where
+-- conv gives f of a sample that doesn't pass the test; P holds of every sample of the row
+module _ {A B : Type 0} (conv : A → Outcome B) (test : A → Bool) (f : A → B) (P : A → Type 0) (d : A) (good : (x : A) → P x → test x ≡ false → conv x ≡ gives (f x)) where
   abbrev All : List A → Type 0
   All s = (i : ℕ) → i < length s → P (getD s i d)
 
   tail : (x : A) (xs : List A) → All (x ∷ xs) → All xs
   tail x xs p i h = p (suc i) (omega arith)
 
-  -- ---- a sample is refused
+  -- ---- the first sample that passes it is refused
 
-  abbrev firstRefusal : ℕ → List A → ℕ → Outcome Success
-  firstRefusal at s i = refuses (number (getD s i d)) (at + i)
+  module _ (m p : ℕ) where
+    refused-step : (at : ℕ) (x : A) (xs : List A) → P x → (b : Bool) → test x ≡ b → cond b 0 (suc (first test xs)) < suc (length xs) → conv (getD (x ∷ xs) (cond b 0 (suc (first test xs))) d) ≡ refuses m p
+        → (first test xs < length xs → conv (getD xs (first test xs) d) ≡ refuses m p → rowAnswer conv (suc at) xs ≡ refuses m (suc at + first test xs))
+        → sampleThen at (conv x) (rowAnswer conv (suc at) xs) ≡ refuses m (at + cond b 0 (suc (first test xs)))
+    refused-step at x xs u true q k bad rest = ap (λ o. sampleThen at o (rowAnswer conv (suc at) xs)) bad ∙ ap (λ (i : ℕ). refuses m i) (omega arith)
+    refused-step at x xs u false q k bad rest =
+        ap (λ o. sampleThen at o (rowAnswer conv (suc at) xs)) (good x u q) ∙ rest (omega arith) bad ∙ ap (λ (i : ℕ). refuses m i) (omega arith)
 
-  refused-step : (at : ℕ) (x : A) (xs : List A) → P x → (b : Bool) → test x ≡ b → cond b 0 (suc (first test xs)) < suc (length xs)
-      → (first test xs < length xs → rowAnswer conv (suc at) xs ≡ firstRefusal (suc at) xs (first test xs))
-      → sampleThen at (conv x) (rowAnswer conv (suc at) xs) ≡ firstRefusal at (x ∷ xs) (cond b 0 (suc (first test xs)))
-  refused-step at x xs p true q k rest = ap (λ o. sampleThen at o (rowAnswer conv (suc at) xs)) (bad x p q) ∙ ap (λ (m : ℕ). refuses (number x) m) (omega arith)
-  refused-step at x xs p false q k rest =
-      ap (λ o. sampleThen at o (rowAnswer conv (suc at) xs)) (good x p q) ∙ rest (omega arith) ∙ ap (λ (m : ℕ). refuses (number (getD xs (first test xs) d)) m) (omega arith)
+    row-refused : (at : ℕ) (s : List A) → All s → first test s < length s → conv (getD s (first test s) d) ≡ refuses m p → rowAnswer conv at s ≡ refuses m (at + first test s)
+    unfolding rowAnswer first
+    row-refused at [] u h bad = absurd (not-suc-le-zero h)
+    row-refused at (x ∷ xs) u h bad = refused-step at x xs (u 0 (omega arith)) (test x) refl h bad (row-refused (suc at) xs (tail x xs u))
 
-  row-refused : (at : ℕ) (s : List A) → All s → first test s < length s → rowAnswer conv at s ≡ firstRefusal at s (first test s)
-  unfolding rowAnswer first
-  row-refused at [] p h = absurd (not-suc-le-zero h)
-  row-refused at (x ∷ xs) p h = refused-step at x xs (p 0 (omega arith)) (test x) refl h (row-refused (suc at) xs (tail x xs p))
-
-  -- ---- no sample is refused
+  -- ---- no sample passes it
 
   row-done : (at : ℕ) (s : List A) → All s → first test s ≡ length s → (rowAnswer conv at s ≡ gives done) × (rowResults conv s ≡ map f s)
   unfolding rowAnswer rowResults first
@@ -67,10 +64,11 @@ module _ {A B : Type 0} (conv : A → Outcome B) (test : A → Bool) (f : A → 
     passed : ruledAnswer conv s rule n ≡ rowAnswer conv 0 s
     passed = ap (λ (b : Bool). ruledAnswer conv s b n) pass
 
-    pub sample-refused : at < length s → (m : ℕ) → m ≡ number (getD s at d) → (refuses m at ≡ ruledAnswer conv s rule n) × (old ≡ leftAfter conv s old (ruledAnswer conv s rule n))
-    sample-refused l m m-is =
-        let r : rowAnswer conv 0 s ≡ firstRefusal 0 s (first test s) = row-refused 0 s all (omega arith) in
-        let o : ruledAnswer conv s rule n ≡ refuses m at = passed ∙ r ∙ cc (zero-add (first test s), at-is, m-is) in
+    -- the sample decides with its own number
+    pub sample-refused : at < length s → (m p : ℕ) → conv (getD s at d) ≡ refuses m p → (refuses m at ≡ ruledAnswer conv s rule n) × (old ≡ leftAfter conv s old (ruledAnswer conv s rule n))
+    sample-refused l m p bad =
+        let r = row-refused m p 0 s all (omega arith) (ap (λ (i : ℕ). conv (getD s i d)) (sym at-is) ∙ bad) in
+        let o : ruledAnswer conv s rule n ≡ refuses m at = passed ∙ r ∙ ap (λ (i : ℕ). refuses m i) (zero-add (first test s) ∙ sym at-is) in
         (sym o, sym (ap (leftAfter conv s old) o))
 
     pub all-done : (now : List B) → length s ≤ at → now ≡ map f s → (gives done ≡ ruledAnswer conv s rule n) × (now ≡ leftAfter conv s old (ruledAnswer conv s rule n))

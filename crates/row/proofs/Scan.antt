@@ -38,6 +38,19 @@ module _ {A : Type 0} (test : A → Bool) where
   first-le [] = omega arith
   first-le (x ∷ xs) = first-within (test x) (first test xs) (length xs) (first-le xs)
 
+  -- the sample where a scan stopped passes
+  stopped-at : (b : Bool) (x : A) (xs : List A) (d : A) (k n : ℕ) → test x ≡ b → cond b 0 (suc k) < suc n → (k < n → test (getD xs k d) ≡ true) → test (getD (x ∷ xs) (cond b 0 (suc k)) d) ≡ true
+  stopped-at true x xs d k n q h r = q
+  stopped-at false x xs d k n q h r = r (le-of-suc-le-suc h)
+
+  first-passes : (s : List A) (d : A) → first test s < length s → test (getD s (first test s) d) ≡ true
+  unfolding first
+  first-passes [] d h = absurd (not-suc-le-zero h)
+  first-passes (x ∷ xs) d h = stopped-at (test x) x xs d (first test xs) (length xs) refl h (first-passes xs d)
+
+  pub first-hit : (s : List A) (at : ℕ) (d : A) → at ≡ first test s → at < length s → test (getD s at d) ≡ true
+  first-hit s at d q h = ap (λ (i : ℕ). test (getD s i d)) q ∙ first-passes s d (omega arith)
+
   -- a scan that came to the end met none
   pub first-all : (s : List A) (at : ℕ) → at ≡ first test s → length s ≤ at → first test s ≡ length s
   first-all s at q h = omega (arith, first-le s)

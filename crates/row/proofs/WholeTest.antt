@@ -181,11 +181,11 @@ sum-rounded f (fin s m e) (fin false i d) t a v w z l =
     let zero-side : s ≡ true → m * up e * down d ≡ 0 = λ q. whole 0 (z (sym (v .0) ∙ q) ∙ sym (zero-mul (2 ^ low f))) ∙ zero-mul c in
     let sum-is = sum-positive f s (m * up e * down d) (i * up d * down e) c zero-side ∙ ap (λ (x : ℕ). round f false (m * up e * down d + x) c) (right-over i d e (hid f) (w .1)) in
     record {
-      r = rounded f (m * up e * down d) c p b
-    ; value = subst (λ (y : Float). HasValue y false (rounded f (m * up e * down d) c p b) 1) (sym sum-is) (rounded-value f (m * up e * down d) c p b)
-    ; least = rounded-range f (m * up e * down d) c p b .0
-    ; most = rounded-range f (m * up e * down d) c p b .1
-    ; exact = λ n q. rounded-whole f (m * up e * down d) c p b n (whole n q)
+      r = rounded f (m * up e * down d) c p b;
+      value = subst (λ (y : Float). HasValue y false (rounded f (m * up e * down d) c p b) 1) (sym sum-is) (rounded-value f (m * up e * down d) c p b);
+      least = rounded-range f (m * up e * down d) c p b .0;
+      most = rounded-range f (m * up e * down d) c p b .1;
+      exact = λ n q. rounded-whole f (m * up e * down d) c p b n (whole n q);
     }
 
 -- so (x + h) - h is a whole number q, and x's own where x is whole

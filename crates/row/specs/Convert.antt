@@ -1,11 +1,11 @@
 -- The conversion of a row into a second row. RULES.md: Exact conversion, Refusals.
-use Prim.Native.Nat.{ℕ, _+_}
-use mathlib.Core.Bool.{Bool, not}
+use Prim.Native.Nat.{ℕ}
+use mathlib.Core.Bool.{Bool, not, _&&_}
 use mathlib.Core.List.{List}
 use lib.Dec.{eqb, ltb}
 use lib.IntN.{pos}
 use lib.ListN.{length}
-use lib.Ieee.{Float, nan, binary32, ofInt}
+use lib.Ieee.{Float, nan, binary32, ofBits, ofInt, toUnsigned, add, sub, eq, le}
 use Rattle.value.specs.declared.Kind.the-variants as kind
 use Rattle.value.specs.declared.Value.{Value}
 use Rattle.value.specs.declared.Value.the-variants.{U8, U16, F32}
@@ -56,3 +56,25 @@ isWide n = ltb 255 n
 -- the cast `n as f32`
 abbrev pub asF32 : ℕ → Float
 asF32 n = ofInt binary32 (pos n)
+
+-- 0, 65535 and 2^23 as f32
+abbrev pub nought : Float
+nought = ofBits binary32 0x0000_0000
+
+abbrev pub lastU16 : Float
+lastU16 = ofBits binary32 0x477f_ff00
+
+abbrev pub shift : Float
+shift = ofBits binary32 0x4b00_0000
+
+-- for a float from 0 up to 2^23: between 2^23 and 2^24 there are only whole numbers, so a fraction is lost on the way
+abbrev pub isWhole : Float → Bool
+isWhole x = eq (sub binary32 (add binary32 x shift) shift) x
+
+-- an f32 that no u16 has the number of
+abbrev pub isMisfit : Float → Bool
+isMisfit x = not ((le nought x && le x lastU16) && isWhole x)
+
+-- the cast `(x + 0) as u16`: minus zero plus zero is zero
+abbrev pub asU16 : Float → ℕ
+asU16 x = toUnsigned 16 (add binary32 x nought)

@@ -4,6 +4,7 @@ mod clamping;
 mod converting;
 
 pub use clamping::clamp;
+pub use converting::f32_to_u16;
 pub use converting::u8_to_u16;
 pub use converting::u16_to_f32;
 pub use converting::u16_to_u8;
