@@ -3,6 +3,10 @@
 mod rows;
 
 pub use rows::silamogo_row_clamp;
+pub use rows::silamogo_row_f32_to_u16;
+pub use rows::silamogo_row_u8_to_u16;
+pub use rows::silamogo_row_u16_to_f32;
+pub use rows::silamogo_row_u16_to_u8;
 
 #[repr(C)]
 pub struct Answer {
