@@ -1,18 +1,18 @@
 -- A float's value as a fraction, and what its bits stand for: each tells the other.
-use mathlib.Core.Path.{_≡_, refl, sym, _∙_, ap, subst}
+use mathlib.Core.Path.{_≡_, sym, _∙_, ap}
 use mathlib.Core.Bool.{Bool, true, false, cond}
-use Prim.Native.Nat.{ℕ, _+_, _*_, _^_, _≤_, _<_}
+use Prim.Native.Nat.{ℕ, _*_, _^_, _<_}
 use native.Mathlib.Nat.{mul-one, mul-assoc, mul-right-comm, eq-of-mul-eq-mul-right}
 use native.Mathlib.Omega.{arith}
 use lib.Dec.{T}
-use lib.Pow.{pow-pos, pow-add}
+use lib.Pow.{pow-add}
 use lib.IntN.{pos}
 use lib.Ieee.{Float, nan, inf, fin, Format, binary32, low, top, up, down, fits, toBits, ofBits, ofInt}
 use lib.Ieee.Bits.{ofBits-toBits, toBits-lt}
 use lib.Ieee.Exact.{HasValue}
 use lib.Ieee.Fits.{ofInt-fits, down-pos}
 use lib.Ieee.Back.{round-whole}
-use Rattle.float.specs.Format.{fractionOf, exponentOf, infOf, negativeOf, absOf, infiniteOf, nanOf, magOf}
+use Rattle.float.specs.Format.{fractionOf, exponentOf, negativeOf, absOf, infiniteOf, nanOf, magOf}
 use Rattle.float.specs.Number.{Exact, notNumber, infinite, finite, times}
 use Rattle.float.specs.Number as float-number
 use Rattle.float.specs.Order.{patternOf}

@@ -2,16 +2,16 @@
 use mathlib.Core.Path.{_≡_, refl, sym, _∙_, ap, subst}
 use mathlib.Core.Bool.{Bool, true, false, not, _&&_, true≢false}
 use mathlib.Core.List.{List, map}
-use mathlib.Core.Logic.{_⊎_, inl, inr}
-use Prim.Native.Nat.{ℕ, zero, suc, _+_, _-_, _*_, _/_, _%_, _^_, _≤_, _<_, zero-le}
-use native.Mathlib.Nat.{le-of-mul-le-mul-right, mul-le-mul-right, mul-lt-mul-of-pos-right, lt-of-le-of-lt, eq-of-mul-eq-mul-right, mul-right-comm, div-add-mod', zero-mul, add-zero}
+use mathlib.Core.Logic.{inl, inr}
+use Prim.Native.Nat.{ℕ, zero, suc, _+_, _*_, _/_, _%_, _^_, _≤_, _<_, zero-le}
+use native.Mathlib.Nat.{le-of-mul-le-mul-right, mul-le-mul-right, mul-lt-mul-of-pos-right, lt-of-le-of-lt, eq-of-mul-eq-mul-right, div-add-mod', zero-mul, add-zero}
 use native.Mathlib.Omega.{arith}
 use borrow.Author.Tests.{le-ltb, ltb-false, lt-leb}
 use lib.Dec.{T, ltb, lit<, le→leb}
 use lib.IntN.{ℤ, pos}
 use lib.ListN.{length, getD}
 use lib.Pow.{pow-pos}
-use lib.Ieee.{Float, nan, inf, fin, binary32, fits, isNan, nanBits, toBits, ofBits, ofInt, inUnsigned, inFloat, toUnsigned, add, le}
+use lib.Ieee.{Float, nan, inf, fin, binary32, fits, isNan, nanBits, toBits, ofBits, inUnsigned, inFloat, toUnsigned, add, le}
 use lib.Ieee.Back.{unsigned-back, whole-unique}
 use lib.Ieee.Bits.{ofBits-fits}
 use lib.Ieee.Exact.{HasValue}
@@ -19,7 +19,6 @@ use lib.Ieee.Fits.{add-fits, ofInt-fits}
 use Rattle.float.specs.Format.{absOf, negativeOf, nanOf, magOf}
 use Rattle.float.specs.Number.{Exact, notNumber, infinite, finite, times, number, numberOf, signedOf}
 use Rattle.float.specs.Order.{orderN, orderZ, orderOf, patternOf, isLessOrEqual}
-use Rattle.float.specs.declared.Order.the-variants.{Less, Equal, Greater, Unordered}
 use Rattle.float.proofs.Comparing.{pattern-nan, pattern-infinite, pattern-finite}
 use Rattle.float.proofs.Naturals.{lt-or-ge, three-ways, order-less, order-equal, order-greater}
 use Rattle.float.proofs.Magnitude.{abs-clear}

@@ -1,19 +1,17 @@
 -- Which f32 are whole, by their bits and by the test (x + 2^23) - 2^23 == x.
-use mathlib.Core.Path.{_≡_, refl, sym, _∙_, ap, subst}
+use mathlib.Core.Path.{_≡_, refl, sym, _∙_, ap}
 use mathlib.Core.Bool.{Bool, true, false, true≢false}
-use mathlib.Core.Logic.{inl, inr}
 use Prim.Native.Nat.{ℕ, zero, suc, _+_, _-_, _*_, _/_, _%_, _^_, _≤_, _<_}
-use native.Mathlib.Nat.{lt-of-lt-of-le, le-of-eq, mul-assoc, mul-div-cancel, mul-mod-left, mul-one, le-div-iff-mul-le, add-zero}
+use native.Mathlib.Nat.{lt-of-lt-of-le, le-of-eq, mul-assoc, mul-div-cancel, mul-mod-left, le-div-iff-mul-le, add-zero}
 use native.Mathlib.Omega.{arith}
 use lib.Dec.{T}
 use lib.IntN.{ℤ, pos, natAbs}
 use lib.Pow.{pow-add, pow-pos}
-use lib.Ieee.{Float, Format, binary32, fits, toBits, ofBits, ofFields, odd, add, sub, le, eq}
-use lib.Ieee.Bits.{ofBits-fits}
+use lib.Ieee.{Float, binary32, fits, toBits, ofBits, ofFields, odd, add, sub, le, eq}
 use lib.Ieee.Exact.{HasValue}
 use lib.Ieee.Fits.{sub-fits}
-use Rattle.float.specs.Format.{fractionOf, exponentOf, magAt, magOf}
-use Rattle.float.specs.Number.{Exact, finite, number, numberOf, signedOf}
+use Rattle.float.specs.Format.{magAt, magOf}
+use Rattle.float.specs.Number.{Exact, numberOf, signedOf}
 use Rattle.float.specs.Order.{orderZ, orderOf, patternOf, compareOf, isEqual, isLessOrEqual}
 use Rattle.float.specs.declared.Order.{Order}
 use Rattle.float.specs.declared.Order.the-variants.{Less, Equal, Greater, Unordered}

@@ -1,14 +1,17 @@
 // Rows of samples that the caller lends. A row is refused whole, with the lowest index deciding, or done whole:
-// a pass that only looks comes before the pass that writes (docs/RULES.md: Rows, Choosing and clamping).
+// a pass that only looks comes before the pass that writes (docs/RULES.md: Refusals, Exact conversion, Choosing and clamping).
 mod clamping;
-mod converting;
+mod floating;
+mod narrowing;
+mod wholes;
+mod widening;
 
 pub use clamping::clamp;
-pub use converting::f32_to_u16;
-pub use converting::u8_to_u16;
-pub use converting::u16_to_f32;
-pub use converting::u16_to_u8;
+pub use floating::u16_to_f32;
+pub use narrowing::u16_to_u8;
 use value::Refusal;
+pub use wholes::f32_to_u16;
+pub use widening::u8_to_u16;
 
 // What a row operation answers.
 pub enum Rowed {

@@ -1,0 +1,48 @@
+-- Up to i no sample is above 255.
+use Prim.Native.Nat.{_-_}
+use borrow.Author.Tests.{lt-ltb, le-ltb}
+use lib.ListN.{length}
+use Rattle.row.specs.Convert.{isWide}
+use Rattle.row.proofs.Scan.{Reached, reach-step, reach-stop, reach-end}
+use borrow.Author.Needs.{needs}
+use Rattle.row.proofs.narrowing.first_wide_from.Statement.{statement}
+use Rattle.row.proofs.narrowing.first_wide_from.Tie as tie
+
+abbrev Inv-loop : tie.InvT-loop
+Inv-loop row from i₀ i = Reached isWide from row i
+
+abbrev μ-loop : tie.MeasureT-loop
+μ-loop row from i₀ i = length row - i
+
+returns : tie.Need-returns Inv-loop μ-loop
+returns c =
+    let b = c .before .before .before in
+    let a = b .before .args in
+    reach-stop isWide (a .from) (a .row .now) (b .loop .i) 0 (c .before .before .loop-test .taken) (b .loop .inv) (lt-ltb _ _ (c .if1 .taken))
+
+loop-again : tie.Need-loop-again Inv-loop μ-loop
+loop-again c =
+    let b = c .before .before .before in
+    let a = b .before .args in
+    reach-step isWide (a .from) (a .row .now) (b .loop .i) 0 (c .before .before .loop-test .taken) (b .loop .inv) (le-ltb _ _ (c .if1 .left))
+
+returns-2 : tie.Need-returns-2 Inv-loop μ-loop
+returns-2 c =
+    let b = c .before in
+    let a = b .before .args in
+    reach-end isWide (a .from) (a .row .now) (b .loop .i) (c .loop-test .left) (b .loop .inv)
+
+pub first-wide-from-spec : {M : Type 1} → statement M
+first-wide-from-spec =
+    tie.close
+    (tie.spec
+    Inv-loop
+    μ-loop
+    (λ c. search needs)
+    (λ c. search needs)
+    (λ c. search needs)
+    returns
+    (λ c. search needs)
+    (λ c. search needs)
+    loop-again
+    returns-2)

@@ -1,0 +1,44 @@
+-- Up to i, the flag is whether a sample is above 255.
+use mathlib.Core.Path.{_≡_, _∙_, ap}
+use mathlib.Core.Bool.{Bool, _||_}
+use Prim.Native.Nat.{_-_, _≤_}
+use native.Mathlib.Omega.{arith}
+use lib.ListN.{length, getD, take}
+use Rattle.row.specs.Row.{any}
+use Rattle.row.specs.Convert.{isWide}
+use Rattle.row.proofs.Scan.{none-yet, any-step, any-end}
+use borrow.Author.Needs.{needs}
+use Rattle.row.proofs.narrowing.has_wide.Statement.{statement}
+use Rattle.row.proofs.narrowing.has_wide.Tie as tie
+
+abbrev Inv-loop : tie.InvT-loop
+Inv-loop part found₀ i₀ found i = (i ≤ length part) × (found ≡ any isWide (take i part))
+
+abbrev μ-loop : tie.MeasureT-loop
+μ-loop part found₀ i₀ found i = length part - i
+
+loop-holds : tie.Need-loop-holds Inv-loop μ-loop
+loop-holds c = (omega arith, none-yet isWide (c .args .part .now))
+
+loop-again : tie.Need-loop-again Inv-loop μ-loop
+loop-again c =
+    let at = c .before .before in
+    let s = at .before .args .part .now in
+    (omega arith, ap (λ (b : Bool). b || isWide (getD s (at .loop .i) 0)) (at .loop .inv .1) ∙ any-step isWide s (at .loop .i) 0 (c .before .loop-test .taken))
+
+returns : tie.Need-returns Inv-loop μ-loop
+returns c = c .before .loop .inv .1 ∙ any-end isWide _ _ (c .loop-test .left)
+
+pub has-wide-spec : {M : Type 1} → statement M
+has-wide-spec =
+    tie.close
+    (tie.spec
+    Inv-loop
+    μ-loop
+    loop-holds
+    (λ c. search needs)
+    (λ c. search needs)
+    (λ c. search needs)
+    (λ c. search needs)
+    loop-again
+    returns)

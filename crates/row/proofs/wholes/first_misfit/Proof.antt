@@ -1,0 +1,50 @@
+-- A block without a misfit is passed whole.
+use mathlib.Core.Path.{_≡_, sym, _∙_, ap}
+use mathlib.Core.Bool.{false}
+use Prim.Native.Nat.{ℕ, _+_, _-_, _≤_}
+use native.Mathlib.Omega.{arith}
+use lib.ListN.{length, take, drop}
+use Rattle.row.specs.Row.{first, any}
+use Rattle.row.specs.Convert.{isMisfit}
+use Rattle.row.proofs.Scan.{reach-block}
+use borrow.Author.Needs.{needs}
+use Rattle.row.proofs.wholes.first_misfit.Statement.{statement}
+use Rattle.row.proofs.wholes.first_misfit.Tie as tie
+
+abbrev Inv-loop : tie.InvT-loop
+Inv-loop row n i₀ i = (i ≤ n) × (n ≡ length row) × (first isMisfit row ≡ i + first isMisfit (drop i row))
+
+abbrev μ-loop : tie.MeasureT-loop
+μ-loop row n i₀ i = n - i
+
+loop-again : tie.Need-loop-again Inv-loop μ-loop
+loop-again c =
+    let b = c .before .before .before .before in
+    let s = b .before .before .args .row .now in
+    let i = b .loop .i in
+    let fit : i + 256 ≤ length s = omega arith in
+    let m : (i + 256) - i ≡ 256 = omega arith in
+    let none : any isMisfit (take 256 (drop i s)) ≡ false = ap (λ (k : ℕ). any isMisfit (take k (drop i s))) (sym m) ∙ sym (c .before .has-misfit .ensures) ∙ c .if1 .left in
+    (omega arith, b .loop .inv .1, reach-block isMisfit 256 s i fit none (b .loop .inv .2))
+
+pub first-misfit-spec : {M : Type 1} → statement M
+first-misfit-spec =
+    tie.close
+    (tie.spec
+    Inv-loop
+    μ-loop
+    (λ c. search needs)
+    (λ c. search needs)
+    (λ c. search needs)
+    (λ c. search needs)
+    (λ c. search needs)
+    (λ c. search needs)
+    (λ c. search needs)
+    (λ c κs. search needs)
+    (λ c κs. search needs)
+    (λ c. search needs)
+    (λ c. search needs)
+    (λ c. search needs)
+    loop-again
+    (λ c κs. search needs)
+    (λ c. search needs))

@@ -1,0 +1,52 @@
+-- Up to i no sample is a misfit.
+use mathlib.Core.Path.{sym, _∙_}
+use Prim.Native.Nat.{_-_}
+use lib.ListN.{length}
+use lib.Ieee.{nan}
+use Rattle.row.specs.Convert.{isMisfit}
+use Rattle.row.proofs.Scan.{Reached, reach-step, reach-stop, reach-end}
+use borrow.Author.Needs.{needs}
+use Rattle.row.proofs.wholes.first_misfit_from.Statement.{statement}
+use Rattle.row.proofs.wholes.first_misfit_from.Tie as tie
+
+abbrev Inv-loop : tie.InvT-loop
+Inv-loop row from i₀ i = Reached isMisfit from row i
+
+abbrev μ-loop : tie.MeasureT-loop
+μ-loop row from i₀ i = length row - i
+
+returns : tie.Need-returns Inv-loop μ-loop
+returns c =
+    let turn = c .before .before .before in
+    let b = turn .before in
+    let a = b .before .before .args in
+    reach-stop isMisfit (a .from) (a .row .now) (b .loop .i) nan (turn .loop-test .taken) (b .loop .inv) (sym (c .before .is-misfit .ensures) ∙ c .if1 .taken)
+
+loop-again : tie.Need-loop-again Inv-loop μ-loop
+loop-again c =
+    let turn = c .before .before .before in
+    let b = turn .before in
+    let a = b .before .before .args in
+    reach-step isMisfit (a .from) (a .row .now) (b .loop .i) nan (turn .loop-test .taken) (b .loop .inv) (sym (c .before .is-misfit .ensures) ∙ c .if1 .left)
+
+returns-2 : tie.Need-returns-2 Inv-loop μ-loop
+returns-2 c =
+    let b = c .before in
+    let a = b .before .before .args in
+    reach-end isMisfit (a .from) (a .row .now) (b .loop .i) (c .loop-test .left) (b .loop .inv)
+
+pub first-misfit-from-spec : {M : Type 1} → statement M
+first-misfit-from-spec =
+    tie.close
+    (tie.spec
+    Inv-loop
+    μ-loop
+    (λ c. search needs)
+    (λ c. search needs)
+    (λ c. search needs)
+    (λ c κs. search needs)
+    returns
+    (λ c. search needs)
+    (λ c. search needs)
+    loop-again
+    returns-2)

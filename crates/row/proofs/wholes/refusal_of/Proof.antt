@@ -1,0 +1,68 @@
+-- Each arm is one rule, by the sample's bits.
+use mathlib.Core.Path.{sym, _∙_}
+use Prim.Native.Nat.{_<_}
+use native.Mathlib.Omega.{arith}
+use lib.Dec.{T}
+use lib.Ieee.{binary32, fits}
+use Rattle.row.proofs.IntoU16.{refused-nan, refused-infinity, refused-large, refused-whole, refused-fraction, plain-float}
+use borrow.Author.Needs.{needs}
+use Rattle.row.proofs.wholes.refusal_of.Statement.{statement}
+use Rattle.row.proofs.wholes.refusal_of.Tie as tie
+
+own-fits : (c : tie.Start) → T (fits binary32 (c .args .x))
+own-fits c = search needs
+
+returns : tie.Need-returns
+returns c =
+    let b = c .before in
+    let s = b .before .before in
+    refused-nan (s .args .x) (own-fits s) (s .pre) (b .before .bits-f32 .result) (b .abs-f32 .result) (b .before .bits-f32 .ensures) (b .abs-f32 .ensures) (c .if1 .taken)
+
+returns-2 : tie.Need-returns-2
+returns-2 c =
+    let b = c .before .before in
+    let s = b .before .before in
+    refused-infinity (s .args .x) (own-fits s) (s .pre) (b .before .bits-f32 .result) (b .abs-f32 .result) (b .before .bits-f32 .ensures) (b .abs-f32 .ensures) (c .if2 .taken)
+
+-- past the first two arms
+below : (c : tie.Else2) → c .before .before .abs-f32 .result < 0x7f80_0000
+below c = let h = c .before .if1 .left in let n = c .if2 .left in omega arith
+
+returns-3 : tie.Need-returns-3
+returns-3 c =
+    let b = c .before .before .before in
+    let s = b .before .before in
+    refused-large (s .args .x) (own-fits s) (s .pre) (b .before .bits-f32 .result) (b .abs-f32 .result) (b .before .bits-f32 .ensures) (b .abs-f32 .ensures) (below (c .before)) (c .if3 .taken)
+
+float-from-bits : tie.Need-float-from-bits-is-whole
+float-from-bits c = plain-float (c .before .before .before .abs-f32 .result) (c .if3 .left)
+
+returns-4 : tie.Need-returns-4
+returns-4 c =
+    let e = c .before .before in
+    let b = e .before .before .before in
+    let s = b .before .before in
+    refused-whole (s .args .x) (own-fits s) (s .pre) (b .before .bits-f32 .result) (b .abs-f32 .result) (b .before .bits-f32 .ensures) (b .abs-f32 .ensures) (below (e .before)) (e .if3 .left)
+    (sym (c .before .is-whole .ensures) ∙ c .if4 .taken)
+
+returns-5 : tie.Need-returns-5
+returns-5 c =
+    let e = c .before .before in
+    let b = e .before .before .before in
+    let s = b .before .before in
+    refused-fraction (s .args .x) (own-fits s) (s .pre) (b .before .bits-f32 .result) (b .abs-f32 .result) (b .before .bits-f32 .ensures) (b .abs-f32 .ensures) (below (e .before)) (e .if3 .left)
+    (sym (c .before .is-whole .ensures) ∙ c .if4 .left)
+
+pub refusal-of-spec : {M : Type 1} → statement M
+refusal-of-spec =
+    tie.close
+    (tie.spec
+    (λ c κs. search needs)
+    (λ c κs. search needs)
+    float-from-bits
+    (λ c κs. search needs)
+    returns
+    returns-2
+    returns-3
+    returns-4
+    returns-5)
