@@ -31,7 +31,8 @@ use Rattle.convert.proofs.Encode.{step-pos}
 use Rattle.row.specs.Row.{first}
 use Rattle.row.specs.Convert.{f32ToU16, nought, lastU16, isWhole, isMisfit, asF32, asU16}
 use Rattle.row.proofs.ConvertRow.{Answers, convert-refused, convert-done}
-use Rattle.row.proofs.FloatValue.{value-pattern, pattern-value, bits-value, over-more, over-one, steps-units, cast-value}
+use Rattle.row.proofs.FloatValue.{value-pattern, pattern-value, bits-value, over-more, over-one, steps-units}
+use Rattle.row.proofs.IntoF32.{cast-value}
 use Rattle.row.proofs.IntoUnsigned.{into-fraction, into-outside, into-inside, u16-made}
 use Rattle.row.proofs.WholeTest.{whole-sum}
 use Rattle.row.proofs.WholeFloats.{nought-value, last-value, le-at, unsigned-of, whole-found, whole-passes, large-whole, below-large}
@@ -237,10 +238,7 @@ module _ (x : Float) (hx : T (fits binary32 x)) where
             let i = within s n h in
             absurd (true≢false (sym misfit ∙ sample-fit (record { sign = s; count = n; exact = q ∙ ap (finite s) w; plus = i .0; small = i .1 })))
 
-    module _ (bits abs : ℕ) (bits-is : bits ≡ floatBits binary32 x 0) (abs-is : abs ≡ absOf 23 8 bits) where
-      own-abs : abs ≡ absOf 23 8 (toBits binary32 x)
-      own-abs = abs-is ∙ ap (absOf 23 8) (bits-is ∙ bits-are x)
-
+    module _ (abs : ℕ) (own-abs : abs ≡ absOf 23 8 (toBits binary32 x)) where
       pub refused-nan : 0x7f80_0000 < abs → f32ToU16 x ≡ refuses 1 0
       refused-nan h = nan-refused x (pattern-nan 23 8 (toBits binary32 x) (subst (λ (k : ℕ). 0x7f80_0000 < k) own-abs h))
 

@@ -5,7 +5,9 @@ pub mod ClampRow
 pub mod ConvertRow
 pub mod IntoUnsigned
 pub mod FloatValue
+pub mod IntoF32
 pub mod WholeTest
 pub mod WholeFloats
 pub mod IntoU16
 pub mod Determined
+pub mod Cases

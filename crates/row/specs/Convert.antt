@@ -1,4 +1,4 @@
--- The conversion of a row into a second row. RULES.md: Exact conversion, Refusals.
+-- The conversion of a row into a second row. RULES.md: Rows, Exact conversion.
 use Prim.Native.Nat.{ℕ}
 use mathlib.Core.Bool.{Bool, not, _&&_}
 use mathlib.Core.List.{List}

@@ -1,4 +1,4 @@
-// u16 to f32: every sample has its number in the other kind. RULES.md: Exact conversion, Refusals.
+// u16 to f32: every sample has its number in the other kind. RULES.md: Rows, Exact conversion.
 ghost use mathlib.Core.Path.{_≡_};
 ghost use mathlib.Core.List.{map};
 ghost use lib.ListN.{length};

@@ -1,5 +1,5 @@
 // Rows of samples that the caller lends. A row is refused whole, with the lowest index deciding, or done whole:
-// a pass that only looks comes before the pass that writes (docs/RULES.md: Refusals, Exact conversion, Choosing and clamping).
+// a pass that only looks comes before the pass that writes (docs/RULES.md: Rows, Choosing and clamping).
 mod clamping;
 mod floating;
 mod narrowing;

@@ -1,4 +1,4 @@
-// u16 to u8. RULES.md: Exact conversion, Refusals.
+// u16 to u8. RULES.md: Rows, Exact conversion.
 ghost use mathlib.Core.Path.{_≡_};
 ghost use mathlib.Core.List.{map};
 ghost use Prim.Native.Nat.{ℕ, _+_, _≤_};

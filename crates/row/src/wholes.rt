@@ -1,4 +1,4 @@
-// f32 to u16: whole numbers in range. RULES.md: Exact conversion, Refusals.
+// f32 to u16: whole numbers in range. RULES.md: Rows, Exact conversion.
 ghost use mathlib.Core.Path.{_≡_};
 ghost use mathlib.Core.Bool.{true, false};
 ghost use mathlib.Core.List.{map};

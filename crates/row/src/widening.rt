@@ -1,4 +1,4 @@
-// u8 to u16: every sample has its number in the other kind. RULES.md: Exact conversion, Refusals.
+// u8 to u16: every sample has its number in the other kind. RULES.md: Rows, Exact conversion.
 ghost use mathlib.Core.Path.{_≡_};
 ghost use mathlib.Core.List.{map};
 ghost use Prim.Native.Nat.{ℕ};

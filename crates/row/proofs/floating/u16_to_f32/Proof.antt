@@ -2,7 +2,7 @@
 use Prim.Native.Nat.{_^_, _<_}
 use Rattle.row.specs.Convert.{u16ToF32, asF32}
 use Rattle.row.proofs.ConvertRow.{lengths-differ, always-done}
-use Rattle.row.proofs.FloatValue.{u16-float}
+use Rattle.row.proofs.IntoF32.{u16-float}
 use borrow.Author.Needs.{needs}
 use Rattle.row.proofs.floating.u16_to_f32.Statement.{statement}
 use Rattle.row.proofs.floating.u16_to_f32.Tie as tie

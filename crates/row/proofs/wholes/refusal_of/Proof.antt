@@ -1,10 +1,11 @@
 -- Each arm is one rule, by the sample's bits.
-use mathlib.Core.Path.{sym, _∙_}
+use mathlib.Core.Path.{_≡_, sym, _∙_, ap}
 use Prim.Native.Nat.{_<_}
 use native.Mathlib.Omega.{arith}
 use lib.Dec.{T}
-use lib.Ieee.{binary32, fits}
-use Rattle.row.proofs.IntoU16.{refused-nan, refused-infinity, refused-large, refused-whole, refused-fraction, plain-float}
+use lib.Ieee.{binary32, fits, toBits}
+use Rattle.float.specs.Format.{absOf}
+use Rattle.row.proofs.IntoU16.{bits-are, refused-nan, refused-infinity, refused-large, refused-whole, refused-fraction, plain-float}
 use borrow.Author.Needs.{needs}
 use Rattle.row.proofs.wholes.refusal_of.Statement.{statement}
 use Rattle.row.proofs.wholes.refusal_of.Tie as tie
@@ -12,17 +13,20 @@ use Rattle.row.proofs.wholes.refusal_of.Tie as tie
 own-fits : (c : tie.Start) → T (fits binary32 (c .args .x))
 own-fits c = search needs
 
+own-abs : (c : tie.After-abs-f32) → c .abs-f32 .result ≡ absOf 23 8 (toBits binary32 (c .before .before .args .x))
+own-abs c = c .abs-f32 .ensures ∙ ap (absOf 23 8) (c .before .bits-f32 .ensures ∙ bits-are (c .before .before .args .x))
+
 returns : tie.Need-returns
 returns c =
     let b = c .before in
     let s = b .before .before in
-    refused-nan (s .args .x) (own-fits s) (s .pre) (b .before .bits-f32 .result) (b .abs-f32 .result) (b .before .bits-f32 .ensures) (b .abs-f32 .ensures) (c .if1 .taken)
+    refused-nan (s .args .x) (own-fits s) (s .pre) (b .abs-f32 .result) (own-abs b) (c .if1 .taken)
 
 returns-2 : tie.Need-returns-2
 returns-2 c =
     let b = c .before .before in
     let s = b .before .before in
-    refused-infinity (s .args .x) (own-fits s) (s .pre) (b .before .bits-f32 .result) (b .abs-f32 .result) (b .before .bits-f32 .ensures) (b .abs-f32 .ensures) (c .if2 .taken)
+    refused-infinity (s .args .x) (own-fits s) (s .pre) (b .abs-f32 .result) (own-abs b) (c .if2 .taken)
 
 -- past the first two arms
 below : (c : tie.Else2) → c .before .before .abs-f32 .result < 0x7f80_0000
@@ -32,7 +36,7 @@ returns-3 : tie.Need-returns-3
 returns-3 c =
     let b = c .before .before .before in
     let s = b .before .before in
-    refused-large (s .args .x) (own-fits s) (s .pre) (b .before .bits-f32 .result) (b .abs-f32 .result) (b .before .bits-f32 .ensures) (b .abs-f32 .ensures) (below (c .before)) (c .if3 .taken)
+    refused-large (s .args .x) (own-fits s) (s .pre) (b .abs-f32 .result) (own-abs b) (below (c .before)) (c .if3 .taken)
 
 float-from-bits : tie.Need-float-from-bits-is-whole
 float-from-bits c = plain-float (c .before .before .before .abs-f32 .result) (c .if3 .left)
@@ -42,7 +46,7 @@ returns-4 c =
     let e = c .before .before in
     let b = e .before .before .before in
     let s = b .before .before in
-    refused-whole (s .args .x) (own-fits s) (s .pre) (b .before .bits-f32 .result) (b .abs-f32 .result) (b .before .bits-f32 .ensures) (b .abs-f32 .ensures) (below (e .before)) (e .if3 .left)
+    refused-whole (s .args .x) (own-fits s) (s .pre) (b .abs-f32 .result) (own-abs b) (below (e .before)) (e .if3 .left)
     (sym (c .before .is-whole .ensures) ∙ c .if4 .taken)
 
 returns-5 : tie.Need-returns-5
@@ -50,7 +54,7 @@ returns-5 c =
     let e = c .before .before in
     let b = e .before .before .before in
     let s = b .before .before in
-    refused-fraction (s .args .x) (own-fits s) (s .pre) (b .before .bits-f32 .result) (b .abs-f32 .result) (b .before .bits-f32 .ensures) (b .abs-f32 .ensures) (below (e .before)) (e .if3 .left)
+    refused-fraction (s .args .x) (own-fits s) (s .pre) (b .abs-f32 .result) (own-abs b) (below (e .before)) (e .if3 .left)
     (sym (c .before .is-whole .ensures) ∙ c .if4 .left)
 
 pub refusal-of-spec : {M : Type 1} → statement M
