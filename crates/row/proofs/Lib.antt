@@ -8,6 +8,8 @@ pub mod FloatValue
 pub mod IntoF32
 pub mod WholeTest
 pub mod WholeFloats
+pub mod F32Sample
+pub mod Misfits
 pub mod IntoU16
 pub mod Determined
 pub mod Cases

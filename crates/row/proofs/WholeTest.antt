@@ -113,10 +113,10 @@ sum-positive f true a (suc b) c h =
 
 -- the two sides of a sum over the common denominator
 module _ (m : ℕ) (e : ℤ) (d : ℤ) (n : ℕ) (h : m * up e * 1 ≡ n * down e) where
-  pub left-over : m * up e * down d ≡ n * (down e * down d)
+  left-over : m * up e * down d ≡ n * (down e * down d)
   left-over = ap (λ (x : ℕ). x * down d) (sym (mul-one (m * up e)) ∙ h) ∙ mul-assoc n (down e) (down d)
 
-  pub right-over : m * up e * down d ≡ n * (down d * down e)
+  right-over : m * up e * down d ≡ n * (down d * down e)
   right-over = left-over ∙ ap (λ (x : ℕ). n * x) (mul-comm (down e) (down d))
 
 common-pos : (e d : ℤ) → 0 < down e * down d

@@ -5,7 +5,8 @@ use native.Mathlib.Omega.{arith}
 use lib.Dec.{T}
 use lib.Ieee.{binary32, fits, toBits}
 use Rattle.float.specs.Format.{absOf}
-use Rattle.row.proofs.IntoU16.{bits-are, refused-nan, refused-infinity, refused-large, refused-whole, refused-fraction, plain-float}
+use Rattle.row.proofs.F32Sample.{bits-are}
+use Rattle.row.proofs.IntoU16.{refused-nan, refused-infinity, refused-large, refused-whole, refused-fraction, plain-float}
 use borrow.Author.Needs.{needs}
 use Rattle.row.proofs.wholes.refusal_of.Statement.{statement}
 use Rattle.row.proofs.wholes.refusal_of.Tie as tie

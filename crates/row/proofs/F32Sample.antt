@@ -1,0 +1,60 @@
+-- One f32 sample into u16, by what its bits stand for.
+use mathlib.Core.Path.{_≡_, refl, sym, _∙_, ap}
+use mathlib.Core.Bool.{Bool, true, false}
+use Prim.Native.Nat.{ℕ, _+_, _*_, _/_, _%_, _^_}
+use native.Mathlib.Nat.{eq-of-mul-eq-mul-right, div-add-mod', add-zero}
+use lib.Ieee.{Float, nan, inf, fin, binary32, isNan, toBits}
+use Rattle.float.specs.Format.{absOf}
+use Rattle.float.specs.Number.{Exact, notNumber, infinite, finite, times}
+use Rattle.float.specs.Order.{patternOf}
+use Rattle.value.specs.declared.Kind.the-variants as kind
+use Rattle.value.specs.Meaning.{bitsOf, unit, stepOf, floatBits}
+use Rattle.value.specs.Outcome.{gives, refuses, mapped}
+use Rattle.convert.specs.Convert.{outside, intoOf, convertOf}
+use Rattle.convert.proofs.Encode.{step-pos}
+use Rattle.row.specs.Convert.{f32ToU16}
+use Rattle.row.proofs.FloatValue.{steps-units}
+use Rattle.row.proofs.IntoUnsigned.{into-fraction, into-outside, into-inside, u16-made}
+
+abbrev pub exactOf : Float → Exact
+exactOf x = patternOf 23 8 (toBits binary32 x)
+
+-- the word beside a NaN is the one that the logic writes for it
+pub bits-are : (x : Float) → floatBits binary32 x 0 ≡ toBits binary32 x
+unfolding floatBits isNan toBits absOf
+bits-are nan = refl
+bits-are (inf s) = refl
+bits-are (fin s m e) = refl
+
+module _ (x : Float) where
+  by-exact : {X : Exact} → exactOf x ≡ X → f32ToU16 x ≡ mapped bitsOf (intoOf kind.U16 (times (stepOf binary32) X))
+  unfolding f32ToU16 convertOf
+  by-exact q = ap (λ (b : ℕ). mapped bitsOf (intoOf kind.U16 (times (stepOf binary32) (patternOf 23 8 b)))) (bits-are x) ∙ ap (λ (X : Exact). mapped bitsOf (intoOf kind.U16 (times (stepOf binary32) X))) q
+
+  pub nan-refused : exactOf x ≡ notNumber → f32ToU16 x ≡ refuses 1 0
+  unfolding intoOf
+  nan-refused q = by-exact q
+
+  pub infinity-refused : {s : Bool} → exactOf x ≡ infinite s → f32ToU16 x ≡ refuses 2 0
+  unfolding intoOf
+  infinity-refused q = by-exact q
+
+  module _ (s : Bool) (a : ℕ) (q : exactOf x ≡ finite s a) where
+    pub fraction-refused : ((n : ℕ) → a ≡ n * 2 ^ 149 → ⊥) → f32ToU16 x ≡ refuses 3 0
+    fraction-refused h = by-exact q ∙ ap (mapped bitsOf) (into-fraction kind.U16 16 refl s (a * stepOf binary32) (λ r. h (a * stepOf binary32 / unit) (whole-steps r)))
+      where
+        whole-steps : a * stepOf binary32 % unit ≡ 0 → a ≡ a * stepOf binary32 / unit * 2 ^ 149
+        whole-steps r =
+            let n = a * stepOf binary32 / unit in
+            let m : a * stepOf binary32 ≡ n * unit = sym (div-add-mod' (a * stepOf binary32) unit) ∙ ap (λ (k : ℕ). n * unit + k) r ∙ add-zero (n * unit) in
+            eq-of-mul-eq-mul-right (stepOf binary32) (step-pos binary32) a (n * 2 ^ 149) (m ∙ sym (steps-units n))
+
+    module _ (n : ℕ) (w : a ≡ n * 2 ^ 149) where
+      in-units : f32ToU16 x ≡ mapped bitsOf (intoOf kind.U16 (finite s (n * unit)))
+      in-units = by-exact q ∙ ap (λ (k : ℕ). mapped bitsOf (intoOf kind.U16 (finite s k))) (ap (λ (k : ℕ). k * stepOf binary32) w ∙ steps-units n)
+
+      pub outside-refused : outside 0 65535 s n ≡ true → f32ToU16 x ≡ refuses 4 0
+      outside-refused h = in-units ∙ ap (mapped bitsOf) (into-outside kind.U16 16 refl s n h)
+
+      pub inside-given : outside 0 65535 s n ≡ false → f32ToU16 x ≡ gives n
+      inside-given h = in-units ∙ into-inside kind.U16 16 refl s n u16-made h
