@@ -1,19 +1,19 @@
--- Which case of a hex digit's definition the tests pick, and how a number goes on by one digit.
+-- Which case of a digit's definition the tests pick, and how a number goes on by one digit.
 use Prim.Native.Nat.{ℕ, _+_, _-_, _*_, _^_, _≤_, _<_}
 use mathlib.Core.Path.{_≡_, refl, _∙_, ap}
 use mathlib.Core.Bool.{Bool, true, false, cond, _&&_, and-false}
 use mathlib.Core.List.{List}
-use native.Mathlib.Nat.{lt-of-lt-of-le, pow-le-pow-right, pow-suc}
+use native.Mathlib.Nat.{le-trans, lt-of-lt-of-le, mul-le-mul-right, pow-le-pow-right, pow-zero, pow-suc}
 use native.Mathlib.Numerals.{add-one}
 use native.Mathlib.Omega.{arith}
-use borrow.Author.Tests.{le-leb, lt-leb, leb-true}
-use lib.Dec.{leb, lit<}
+use borrow.Author.Tests.{le-leb, lt-leb, leb-true, lt-ltb, le-ltb, ltb-true}
+use lib.Dec.{eqb, leb, ltb, lit<}
 use lib.ListN.{length, getD, drop, drop-of-length-le}
 use lib.Seq.{drop-cons}
 use Rattle.text.specs.declared.Digit.{Digit}
 use Rattle.text.specs.declared.Digit.the-variants as digit
-use Rattle.text.specs.declared.Hex.the-variants as hex
-use Rattle.text.specs.Digits.{within, digitOf, withDigit, numberFrom, hexOf}
+use Rattle.text.specs.declared.Number.the-variants as number
+use Rattle.text.specs.Digits.{within, digitOf, below, digitIn, withDigit, numberFrom, hexOf, zeroAhead, decimalOf}
 
 -- ---- a range
 
@@ -59,48 +59,98 @@ pub digit-above : (b : ℕ) → 103 ≤ b → digit.Nothing ≡ digitOf b
 unfolding digitOf
 digit-above b l = let k : 57 < b = omega arith in simp (within-above 48 57 b k, within-above 97 102 b l)
 
-pub digit-small : (b : ℕ) {d : ℕ} → digitOf b ≡ digit.Is d → d < 16
-unfolding digitOf
-digit-small b {d} h = by-tests (within 48 57 b) (within 97 102 b) refl refl h
+-- ---- a digit of a base
+
+pub in-base : (base b : ℕ) {d : ℕ} → digitOf b ≡ digit.Is d → d < base → digit.Is d ≡ digitIn base b
+unfolding digitIn
+in-base base b e h = rw (e, lt-ltb _ _ h)
+
+pub above-base : (base b : ℕ) {d : ℕ} → digitOf b ≡ digit.Is d → base ≤ d → digit.Nothing ≡ digitIn base b
+unfolding digitIn
+above-base base b e h = rw (e, le-ltb _ _ h)
+
+pub no-digit : (base b : ℕ) → digitOf b ≡ digit.Nothing → digit.Nothing ≡ digitIn base b
+unfolding digitIn
+no-digit base b e = rw e
+
+pub digit-small : (base b : ℕ) {d : ℕ} → digitIn base b ≡ digit.Is d → d < base
+unfolding digitIn
+digit-small base b {d} h = found (digitOf b) h
   where
-    by-tests : (t u : Bool) → within 48 57 b ≡ t → within 97 102 b ≡ u → cond t (digit.Is (b - 48)) (cond u (digit.Is (b - 97 + 10)) digit.Nothing) ≡ digit.Is d → d < 16
-    by-tests true u p q k = let e : b - 48 ≡ d = cc in let l = within-high 48 57 b p in omega arith
-    by-tests false true p q k = let e : b - 97 + 10 ≡ d = cc in let l = within-high 97 102 b q in omega arith
-    by-tests false false p q k = let z : _≡_ {A = ℕ} 0 1 = cc in absurd (omega arith)
+    by-test : (e : ℕ) (t : Bool) → ltb e base ≡ t → cond t (digit.Is e) digit.Nothing ≡ digit.Is d → d < base
+    by-test e true p k = let q : e ≡ d = cc in rw (← q) (ltb-true e base p)
+    by-test e false p k = let z : _≡_ {A = ℕ} 0 1 = cc in absurd (omega arith)
+
+    found : (x : Digit) → below base x ≡ digit.Is d → d < base
+    found (digit.Is e) k = by-test e (ltb e base) refl k
+    found digit.Nothing k = let z : _≡_ {A = ℕ} 0 1 = cc in absurd (omega arith)
 
 -- ---- a number
 
-module _ (s : List ℕ) (i n : ℕ) where
-  pub number-ends : length s ≤ i → numberFrom (drop i s) n ≡ hex.Is n
+module _ (base : ℕ) (s : List ℕ) (i n : ℕ) where
+  pub number-ends : length s ≤ i → numberFrom base (drop i s) n ≡ number.Is n
   unfolding numberFrom
   number-ends h = rw (drop-of-length-le s h)
 
-  number-next : i < length s → numberFrom (drop i s) n ≡ withDigit (digitOf (getD s i 0)) (λ d. numberFrom (drop (i + 1) s) (n * 16 + d))
+  number-next : i < length s → numberFrom base (drop i s) n ≡ withDigit (digitIn base (getD s i 0)) (λ d. numberFrom base (drop (i + 1) s) (n * base + d))
   unfolding numberFrom
   number-next h = rw (drop-cons s i 0 h, add-one)
 
-  pub number-stops : i < length s → digitOf (getD s i 0) ≡ digit.Nothing → numberFrom (drop i s) n ≡ hex.Malformed
-  number-stops h e = number-next h ∙ ap (λ (x : Digit). withDigit x (λ d. numberFrom (drop (i + 1) s) (n * 16 + d))) e
+  pub number-stops : i < length s → digitIn base (getD s i 0) ≡ digit.Nothing → numberFrom base (drop i s) n ≡ number.Malformed
+  number-stops h e = number-next h ∙ ap (λ (x : Digit). withDigit x (λ d. numberFrom base (drop (i + 1) s) (n * base + d))) e
 
-  pub number-more : (d : ℕ) → i < length s → digitOf (getD s i 0) ≡ digit.Is d → numberFrom (drop i s) n ≡ numberFrom (drop (i + 1) s) (n * 16 + d)
-  number-more d h e = number-next h ∙ ap (λ (x : Digit). withDigit x (λ k. numberFrom (drop (i + 1) s) (n * 16 + k))) e
+  pub number-more : (d : ℕ) → i < length s → digitIn base (getD s i 0) ≡ digit.Is d → numberFrom base (drop i s) n ≡ numberFrom base (drop (i + 1) s) (n * base + d)
+  number-more d h e = number-next h ∙ ap (λ (x : Digit). withDigit x (λ k. numberFrom base (drop (i + 1) s) (n * base + k))) e
 
--- below the sixteenth digit there is room for one more
-pub room : (n i : ℕ) → n < 16 ^ i → i < 16 → n < 2 ^ 60
-room n i h l = let m : i ≤ 15 = omega arith in lt-of-lt-of-le h (pow-le-pow-right (lit< tt) m)
+-- no digit, and one more digit
+pub narrowest : (base : ℕ) → 0 < base ^ 0
+narrowest base = rw pow-zero (lit< tt)
 
-pub wider : (n i d : ℕ) → n < 16 ^ i → d < 16 → n * 16 + d < 16 ^ (i + 1)
-wider n i d h l = rw (add-one, pow-suc) (omega arith)
+pub wider : (base n i d : ℕ) → n < base ^ i → d < base → n * base + d < base ^ (i + 1)
+wider base n i d h l = rw (add-one, pow-suc) (let m = mul-le-mul-right base h in omega arith)
 
--- 1 to 16 bytes are a number's digits, and no other count
-pub hex-counted : (s : List ℕ) → (length s ≡ 0 → ⊥) → length s ≤ 16 → hexOf s ≡ numberFrom s 0
-unfolding hexOf
-hex-counted s h l = let k : 1 ≤ length s = omega arith in simp (within-inside 1 16 (length s) k l)
+-- a number of that many digits and one more is below the bound of the longest
+pub room : (base n i d k : ℕ) → n < base ^ i → d < base → i < k → base ^ k ≤ 2 ^ 64 → n * base + d < 2 ^ 64
+room base n i d k h l m b =
+    let z : 0 < base = omega arith in
+    lt-of-lt-of-le (wider base n i d h l) (le-trans (pow-le-pow-right z (rw add-one m)) b)
 
-pub hex-empty : (s : List ℕ) → length s ≡ 0 → hexOf s ≡ hex.Malformed
-unfolding hexOf
-hex-empty s h = let k : length s < 1 = omega arith in simp (within-below 1 16 (length s) k)
+-- ---- how many digits there are
 
-pub hex-long : (s : List ℕ) → 16 < length s → hexOf s ≡ hex.Malformed
-unfolding hexOf
-hex-long s h = simp (within-above 1 16 (length s) h)
+pub fits : (base most : ℕ) → 0 < base → base ^ most ≤ 2 ^ 64 → {k : ℕ} → k ≤ most → base ^ k ≤ 2 ^ 64
+fits base most z b l = le-trans (pow-le-pow-right z l) b
+
+module _ (s : List ℕ) where
+  pub hex-counted : (length s ≡ 0 → ⊥) → length s ≤ 16 → hexOf s ≡ numberFrom 16 s 0
+  unfolding hexOf
+  hex-counted h l = let k : 1 ≤ length s = omega arith in simp (within-inside 1 16 (length s) k l)
+
+  pub hex-empty : length s ≡ 0 → hexOf s ≡ number.Malformed
+  unfolding hexOf
+  hex-empty h = let k : length s < 1 = omega arith in simp (within-below 1 16 (length s) k)
+
+  pub hex-long : 16 < length s → hexOf s ≡ number.Malformed
+  unfolding hexOf
+  hex-long h = simp (within-above 1 16 (length s) h)
+
+  pub decimal-empty : length s ≡ 0 → decimalOf s ≡ number.Malformed
+  unfolding decimalOf
+  decimal-empty h = let k : length s < 1 = omega arith in simp (within-below 1 19 (length s) k)
+
+  pub decimal-long : 19 < length s → decimalOf s ≡ number.Malformed
+  unfolding decimalOf
+  decimal-long h = simp (within-above 1 19 (length s) h)
+
+  module _ (nonempty : length s ≡ 0 → ⊥) (l : length s ≤ 19) where
+    decimal-tested : decimalOf s ≡ cond (zeroAhead s) number.Malformed (numberFrom 10 s 0)
+    unfolding decimalOf
+    decimal-tested = let k : 1 ≤ length s = omega arith in simp (within-inside 1 19 (length s) k l)
+
+    pub decimal-padded : 1 < length s → eqb (getD s 0 0) 48 ≡ true → decimalOf s ≡ number.Malformed
+    decimal-padded h e = decimal-tested ∙ rw (lt-ltb _ _ h, e)
+
+    pub decimal-unpadded : 1 < length s → eqb (getD s 0 0) 48 ≡ false → decimalOf s ≡ numberFrom 10 s 0
+    decimal-unpadded h e = decimal-tested ∙ rw (lt-ltb _ _ h, e)
+
+    pub decimal-single : length s ≤ 1 → decimalOf s ≡ numberFrom 10 s 0
+    decimal-single h = decimal-tested ∙ rw (le-ltb _ _ h)

@@ -1,13 +1,13 @@
--- Hex digits, and the numbers that they spell.
+-- Digits, and the numbers that they spell.
 use Prim.Native.Nat.{ℕ, _+_, _-_, _*_, _%_}
 use mathlib.Core.Bool.{Bool, cond, _&&_}
 use mathlib.Core.List.{List, [], _∷_}
-use lib.Dec.{leb, ltb}
-use lib.ListN.{length}
+use lib.Dec.{eqb, leb, ltb}
+use lib.ListN.{length, getD}
 use Rattle.text.specs.declared.Digit.{Digit}
 use Rattle.text.specs.declared.Digit.the-variants as digit
-use Rattle.text.specs.declared.Hex.{Hex}
-use Rattle.text.specs.declared.Hex.the-variants as hex
+use Rattle.text.specs.declared.Number.{Number}
+use Rattle.text.specs.declared.Number.the-variants as number
 
 -- low and high and what lies between them
 abbrev pub within : ℕ → ℕ → ℕ → Bool
@@ -24,16 +24,33 @@ digitOf b =
 abbrev pub charOf : ℕ → ℕ
 charOf n = cond (ltb (n % 16) 10) (48 + n % 16) (97 + (n % 16 - 10))
 
+-- a digit that is below the base
+abbrev pub below : ℕ → Digit → Digit
+below base (digit.Is d) = cond (ltb d base) (digit.Is d) digit.Nothing
+below base digit.Nothing = digit.Nothing
+
+-- the digits of a base are the hex digits below it
+unfoldable pub digitIn : ℕ → ℕ → Digit
+digitIn base b = below base (digitOf b)
+
 -- what a digit's value gives, and malformed where there is no digit
-abbrev pub withDigit : Digit → (ℕ → Hex) → Hex
+abbrev pub withDigit : Digit → (ℕ → Number) → Number
 withDigit (digit.Is d) next = next d
-withDigit digit.Nothing next = hex.Malformed
+withDigit digit.Nothing next = number.Malformed
 
 -- the number whose digits so far are n and whose further digits are these
-unfoldable pub numberFrom : List ℕ → ℕ → Hex
-numberFrom [] n = hex.Is n
-numberFrom (b ∷ s) n = withDigit (digitOf b) (λ d. numberFrom s (n * 16 + d))
+unfoldable pub numberFrom : ℕ → List ℕ → ℕ → Number
+numberFrom base [] n = number.Is n
+numberFrom base (b ∷ s) n = withDigit (digitIn base b) (λ d. numberFrom base s (n * base + d))
 
 -- 1 to 16 digits, the high one first
-unfoldable pub hexOf : List ℕ → Hex
-hexOf s = cond (within 1 16 (length s)) (numberFrom s 0) hex.Malformed
+unfoldable pub hexOf : List ℕ → Number
+hexOf s = cond (within 1 16 (length s)) (numberFrom 16 s 0) number.Malformed
+
+-- a zero before other digits
+abbrev pub zeroAhead : List ℕ → Bool
+zeroAhead s = ltb 1 (length s) && eqb (getD s 0 0) 48
+
+-- 1 to 19 digits, the high one first, without a zero before other digits
+unfoldable pub decimalOf : List ℕ → Number
+decimalOf s = cond (within 1 19 (length s)) (cond (zeroAhead s) number.Malformed (numberFrom 10 s 0)) number.Malformed

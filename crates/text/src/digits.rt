@@ -1,8 +1,10 @@
-// Hex digits, in lower case, and the numbers of 1 to 16 of them.
+// Digits, with the hex ones in lower case, and the numbers that they spell in base 16 and in base 10.
 ghost use mathlib.Core.Path.{_≡_};
-ghost use Rattle.text.specs.Digits.{digitOf, charOf, hexOf};
+ghost use Prim.Native.Nat.{_^_, _≤_};
+ghost use lib.ListN.{length};
+ghost use Rattle.text.specs.Digits.{digitOf, digitIn, charOf, numberFrom, hexOf, decimalOf};
 use crate::Digit;
-use crate::Hex;
+use crate::Number;
 
 pub fn hex_digit(b: u8) -> Digit
     ensures { λ r. ⌜ r ≡ digitOf b ⌝ }
@@ -22,24 +24,62 @@ pub fn hex_char(n: u8) -> u8
     if d < 10 { b'0' + d } else { b'a' + (d - 10) }
 }
 
-// All of s, 1 to 16 digits, the high one first.
-pub fn hex_number(s: &[u8]) -> Hex
-    ensures { λ r. ⌜ r ≡ hexOf (now (s .entry)) ⌝ }
+// The digits of a base are the hex digits below it.
+fn digit_in(base: u8, b: u8) -> Digit
+    ensures { λ r. ⌜ r ≡ digitIn base b ⌝ }
 {
-    if s.len() == 0 {
-        return Hex::Malformed;
+    let Digit::Is(d) = hex_digit(b) else {
+        return Digit::Nothing;
+    };
+    if d < base {
+        Digit::Is(d)
+    } else {
+        Digit::Nothing
     }
-    if 16 < s.len() {
-        return Hex::Malformed;
-    }
+}
+
+// All of s, the high digit first. No number of so many digits is too large.
+fn number_in(base: u8, s: &[u8]) -> Number
+    requires { ⌜ base ^ length (now s) ≤ 2 ^ 64 ⌝ }
+    ensures { λ r. ⌜ r ≡ numberFrom base (now (s .entry)) 0 ⌝ }
+{
     let mut n: u64 = 0;
     let mut i = 0;
     while i < s.len() {
-        let Digit::Is(d) = hex_digit(s[i]) else {
-            return Hex::Malformed;
+        let Digit::Is(d) = digit_in(base, s[i]) else {
+            return Number::Malformed;
         };
-        n = n * 16 + d as u64;
+        n = n * base as u64 + d as u64;
         i += 1;
     }
-    Hex::Is(n)
+    Number::Is(n)
+}
+
+// 1 to 16 digits.
+pub fn hex_number(s: &[u8]) -> Number
+    ensures { λ r. ⌜ r ≡ hexOf (now (s .entry)) ⌝ }
+{
+    if s.len() == 0 {
+        return Number::Malformed;
+    }
+    if 16 < s.len() {
+        return Number::Malformed;
+    }
+    number_in(16, s)
+}
+
+// 1 to 19 digits, and no zero stands before other digits.
+pub fn decimal_number(s: &[u8]) -> Number
+    ensures { λ r. ⌜ r ≡ decimalOf (now (s .entry)) ⌝ }
+{
+    if s.len() == 0 {
+        return Number::Malformed;
+    }
+    if 19 < s.len() {
+        return Number::Malformed;
+    }
+    if 1 < s.len() && s[0] == b'0' {
+        return Number::Malformed;
+    }
+    number_in(10, s)
 }

@@ -1,9 +1,10 @@
-// The small words of case lines: hex digits and the numbers that they spell, words and lists of words, and the names of the ten kinds.
+// The small words of case lines: digits and the numbers that they spell, words and lists of words, and the names of the ten kinds.
 // Every call is total: what is no such digit, number or name has an answer of its own.
 mod digits;
 mod names;
 mod words;
 
+pub use digits::decimal_number;
 pub use digits::hex_char;
 pub use digits::hex_digit;
 pub use digits::hex_number;
@@ -22,8 +23,8 @@ pub enum Digit {
     Nothing,
 }
 
-// The number that hex digits spell.
-pub enum Hex {
+// The number that digits spell.
+pub enum Number {
     Is(u64),
     Malformed,
 }

@@ -6,7 +6,7 @@ use borrow.Author.Tests.{eq-eqb, ne-eqb}
 use lib.ListN.{length}
 use Rattle.value.specs.declared.Kind.{Kind}
 use Rattle.value.specs.declared.KindFound.{KindFound}
-use Rattle.text.specs.declared.Hex.{Hex}
+use Rattle.text.specs.declared.Number.{Number}
 use Rattle.text.specs.Digits.{hexOf}
 use Rattle.text.specs.Names.{kindNamed, digitsOf}
 use Rattle.text.specs.Words.{beforeOf, afterOf}
@@ -19,7 +19,7 @@ module _ (k : Kind) (d : List ℕ) {n : ℕ} (q : n ≡ digitsOf k) where
   unfolding withDigits
   digits-amiss h = rw (← q, ne-eqb _ _ h)
 
-  pub digits-all : length d ≡ n → {r : Hex} → r ≡ hexOf d → withDigits k d ≡ withBits k r
+  pub digits-all : length d ≡ n → {r : Number} → r ≡ hexOf d → withDigits k d ≡ withBits k r
   unfolding withDigits
   digits-all h e = rw (← q, eq-eqb _ _ h, ← e)
 

@@ -8,8 +8,8 @@ use Rattle.value.specs.declared.Kind.{Kind}
 use Rattle.value.specs.declared.KindFound.{KindFound}
 use Rattle.value.specs.declared.KindFound.the-variants as kind
 use Rattle.value.specs.Meaning.{valueOf}
-use Rattle.text.specs.declared.Hex.{Hex}
-use Rattle.text.specs.declared.Hex.the-variants as hex
+use Rattle.text.specs.declared.Number.{Number}
+use Rattle.text.specs.declared.Number.the-variants as number
 use Rattle.text.specs.Digits.{hexOf}
 use Rattle.text.specs.Names.{kindNamed, digitsOf}
 use Rattle.text.specs.Words.{beforeOf, afterOf}
@@ -19,9 +19,9 @@ use Rattle.vectors.specs.declared.operands.TwoValues.{TwoValues}
 use Rattle.vectors.specs.declared.operands.TwoValues.the-variants as two
 
 -- the value of a kind with the bits that were read
-abbrev pub withBits : Kind → Hex → OneValue
-withBits k (hex.Is bits) = one.Is (valueOf k bits)
-withBits k hex.Malformed = one.Malformed
+abbrev pub withBits : Kind → Number → OneValue
+withBits k (number.Is bits) = one.Is (valueOf k bits)
+withBits k number.Malformed = one.Malformed
 
 -- the value of a kind with these digits, which are all digits of the kind
 unfoldable pub withDigits : Kind → List ℕ → OneValue

@@ -1,7 +1,7 @@
 // The operands of a line: the digits of a value, one value, two values.
 ghost use mathlib.Core.Path.{_≡_};
 ghost use Rattle.vectors.specs.Operands.{withDigits, valueIn, valuesIn};
-use text::Hex;
+use text::Number;
 use text::after;
 use text::before;
 use text::digits_of;
@@ -29,7 +29,7 @@ pub(crate) fn with_digits(kind: Kind, digits: &[u8]) -> OneValue
     if digits.len() != digits_of(kind) {
         return OneValue::Malformed;
     }
-    let Hex::Is(bits) = hex_number(digits) else {
+    let Number::Is(bits) = hex_number(digits) else {
         return OneValue::Malformed;
     };
     OneValue::Is(value_of(kind, bits))
