@@ -1,4 +1,4 @@
--- What each step of reading says of `withDigits`, `valueIn` and `valuesIn`.
+-- What each step of reading says of `withDigits`, `valueIn`, `valuesIn` and `valueAndKindIn`.
 use Prim.Native.Nat.{ℕ}
 use mathlib.Core.Path.{_≡_}
 use mathlib.Core.List.{List}
@@ -12,7 +12,7 @@ use Rattle.text.specs.Names.{kindNamed, digitsOf}
 use Rattle.text.specs.Words.{beforeOf, afterOf}
 use Rattle.vectors.specs.declared.operands.OneValue.{OneValue}
 use Rattle.vectors.specs.declared.operands.OneValue.the-variants as one
-use Rattle.vectors.specs.Operands.{withBits, withDigits, withKind, valueIn, both, valuesIn}
+use Rattle.vectors.specs.Operands.{withBits, withDigits, withKind, valueIn, both, valuesIn, beside, valueAndKindIn}
 
 module _ (k : Kind) (d : List ℕ) {n : ℕ} (q : n ≡ digitsOf k) where
   pub digits-amiss : (length d ≡ n → ⊥) → withDigits k d ≡ one.Malformed
@@ -30,3 +30,7 @@ value-named s p q = rw (q, p)
 pub values-first : (s : List ℕ) {h : List ℕ} {a : OneValue} → h ≡ beforeOf 32 s → a ≡ valueIn h → valuesIn s ≡ both a (valueIn (afterOf 32 s))
 unfolding valuesIn
 values-first s p q = rw (q, p)
+
+pub beside-first : (s : List ℕ) {h : List ℕ} {v : OneValue} → h ≡ beforeOf 32 s → v ≡ valueIn h → valueAndKindIn s ≡ beside v (kindNamed (afterOf 32 s))
+unfolding valueAndKindIn
+beside-first s p q = rw (q, p)

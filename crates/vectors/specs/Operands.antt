@@ -1,4 +1,4 @@
--- The operands of a case line: the digits of a value, one value, two values.
+-- The operands of a case line: the digits of a value, one value, two values, a value and a kind.
 use Prim.Native.Nat.{ℕ}
 use mathlib.Core.Bool.{cond}
 use mathlib.Core.List.{List}
@@ -17,6 +17,8 @@ use Rattle.vectors.specs.declared.operands.OneValue.{OneValue}
 use Rattle.vectors.specs.declared.operands.OneValue.the-variants as one
 use Rattle.vectors.specs.declared.operands.TwoValues.{TwoValues}
 use Rattle.vectors.specs.declared.operands.TwoValues.the-variants as two
+use Rattle.vectors.specs.declared.operands.ValueAndKind.{ValueAndKind}
+use Rattle.vectors.specs.declared.operands.ValueAndKind.the-variants as target
 
 -- the value of a kind with the bits that were read
 abbrev pub withBits : Kind → Number → OneValue
@@ -44,3 +46,12 @@ both one.Malformed b = two.Malformed
 -- a value, a space, a value
 unfoldable pub valuesIn : List ℕ → TwoValues
 valuesIn s = both (valueIn (beforeOf 32 s)) (valueIn (afterOf 32 s))
+
+abbrev pub beside : OneValue → KindFound → ValueAndKind
+beside (one.Is v) (kind.Is k) = target.Are v k
+beside (one.Is v) kind.Nothing = target.Malformed
+beside one.Malformed k = target.Malformed
+
+-- a value, a space, a kind's name
+unfoldable pub valueAndKindIn : List ℕ → ValueAndKind
+valueAndKindIn s = beside (valueIn (beforeOf 32 s)) (kindNamed (afterOf 32 s))

@@ -22,6 +22,10 @@ pub enum Answer {
     Test(bool),
     Value(Value),
     Refused(Refusal),
+    // A row, which is put from where it stands.
+    Row,
+    // A row that was refused and did not stay as it was.
+    Changed,
     Malformed,
 }
 
@@ -36,12 +40,13 @@ pub(crate) fn put_answer(output: &mut Buffer, used: usize, a: Answer) -> usize
     }
 }
 
-// Words by number: classes, orders, the answers of tests, and `malformed`.
+// Words by number: classes, orders, the answers of tests, `changed` and `malformed`.
 fn put_word(output: &mut Buffer, used: usize, n: usize) -> usize
     requires { ⌜ used ≤ 65536 ⌝ }
     ensures { λ r. ⌜ r ≤ 65536 ⌝ }
 {
-    let words = b"zero subnormal normal infinite nan Less Equal Greater Unordered no yes malformed";
+    let words =
+        b"zero subnormal normal infinite nan Less Equal Greater Unordered no yes changed malformed";
     put(output, used, nth_word(words, n))
 }
 
@@ -50,7 +55,8 @@ fn word_for(a: Answer) -> usize {
         Answer::Class(c) => class_word(c),
         Answer::Order(o) => order_word(o),
         Answer::Test(yes) => if yes { 10 } else { 9 },
-        _ => 11,
+        Answer::Changed => 11,
+        _ => 12,
     }
 }
 

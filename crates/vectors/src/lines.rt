@@ -1,18 +1,25 @@
 // What a line asks, by its first word, and the answer to it. A new word stands in the list of the function for its operands, with an arm
-// of its own there. An answer that is a row is put from the row; every other answer is an `Answer`.
+// of its own there. A line whose answer may be a row is lent the three rows.
 ghost use Prim.Native.Nat.{_≤_};
 use crate::answers::Answer;
 use crate::answers::put_answer;
 use crate::operands::OneValue;
 use crate::operands::TwoValues;
+use crate::operands::ValueAndKind;
+use crate::operands::value_and_kind_in;
 use crate::operands::value_in;
 use crate::operands::values_in;
 use crate::output::Buffer;
-use crate::rows::put_row_clamp;
-use crate::samples::Row;
+use crate::row_lines::put_row_answer;
+use crate::row_lines::row_clamp_line;
+use crate::row_lines::row_line;
+use crate::rows::RowF32;
+use crate::rows::RowU8;
+use crate::rows::RowU16;
 use cmp::Chosen;
 use cmp::Compared;
 use cmp::Tested;
+use convert::Converted;
 use float::class_f32;
 use float::class_f64;
 use text::after;
@@ -23,22 +30,45 @@ use value::bits_f32;
 use value::bits_f64;
 
 // A line is a word, a space, and the operands that the word takes.
-pub(crate) fn put_reply(output: &mut Buffer, used: usize, row: &mut Row, line: &[u8]) -> usize
+pub(crate) fn put_reply(
+    output: &mut Buffer,
+    used: usize,
+    u8s: &mut RowU8,
+    u16s: &mut RowU16,
+    f32s: &mut RowF32,
+    line: &[u8],
+) -> usize
     requires { ⌜ used ≤ 65536 ⌝ }
     ensures { λ r. ⌜ r ≤ 65536 ⌝ }
 {
     let word = before(b' ', line);
     let rest = after(b' ', line);
-    match word_number(word, b"rowclamp") {
-        0 => put_row_clamp(output, used, row, rest),
+    match word_number(word, b"rowclamp row") {
+        0 => put_row_answer(
+            output,
+            used,
+            row_clamp_line(rest, u8s, u16s, f32s),
+            u8s,
+            u16s,
+            f32s,
+        ),
+        1 => put_row_answer(
+            output,
+            used,
+            row_line(rest, u8s, u16s, f32s),
+            u8s,
+            u16s,
+            f32s,
+        ),
         _ => put_answer(output, used, answer_to(word, rest)),
     }
 }
 
 fn answer_to(word: &[u8], rest: &[u8]) -> Answer {
-    match word_number(word, b"class clamp") {
+    match word_number(word, b"class clamp convert") {
         0 => class_line(rest),
         1 => clamp_line(rest),
+        2 => convert_line(rest),
         _ => pair_line(word, rest),
     }
 }
@@ -63,6 +93,13 @@ fn clamp_line(rest: &[u8]) -> Answer {
         return Answer::Malformed;
     };
     chosen(cmp::clamp(v, lower, upper))
+}
+
+fn convert_line(rest: &[u8]) -> Answer {
+    let ValueAndKind::Are(v, to) = value_and_kind_in(rest) else {
+        return Answer::Malformed;
+    };
+    converted(convert::convert(v, to))
 }
 
 // The words that take two values.
@@ -110,5 +147,12 @@ fn chosen(c: Chosen) -> Answer {
     match c {
         Chosen::Is(v) => Answer::Value(v),
         Chosen::Refused(f) => Answer::Refused(f),
+    }
+}
+
+fn converted(c: Converted) -> Answer {
+    match c {
+        Converted::To(v) => Answer::Value(v),
+        Converted::Refused(f) => Answer::Refused(f),
     }
 }

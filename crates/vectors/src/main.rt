@@ -5,6 +5,7 @@ mod answers;
 mod lines;
 mod operands;
 mod output;
+mod row_lines;
 mod rows;
 mod samples;
 
@@ -14,7 +15,9 @@ use lines::put_reply;
 use output::Buffer;
 use output::flush;
 use output::put_byte;
-use samples::Row;
+use rows::RowF32;
+use rows::RowU8;
+use rows::RowU16;
 use text::place_of;
 
 // Where a run stands: `held` bytes of a line that has begun are at the front of the input buffer, which always has room for one more, and
@@ -34,24 +37,39 @@ struct Done {
 fn main() {
     let mut input = io::large_buffer();
     let mut output = io::large_buffer();
-    let mut row: Row = [0.0; 8192];
-    run(&mut input, &mut output, &mut row);
+    let mut u8s: RowU8 = [0; 8192];
+    let mut u16s: RowU16 = [0; 8192];
+    let mut f32s: RowF32 = [0.0; 8192];
+    run(&mut input, &mut output, &mut u8s, &mut u16s, &mut f32s);
 }
 
-fn run(input: &mut Buffer, output: &mut Buffer, row: &mut Row) {
+fn run(
+    input: &mut Buffer,
+    output: &mut Buffer,
+    u8s: &mut RowU8,
+    u16s: &mut RowU16,
+    f32s: &mut RowF32,
+) {
     let mut s = State {
         held: 0,
         used: 0,
         turns: u64::MAX,
     };
     while s.turns > 0 {
-        s = step(input, output, row, s);
+        s = step(input, output, u8s, u16s, f32s, s);
     }
     flush(output, s.used);
 }
 
 // Reads a block and answers its lines.
-fn step(input: &mut Buffer, output: &mut Buffer, row: &mut Row, s: State) -> State
+fn step(
+    input: &mut Buffer,
+    output: &mut Buffer,
+    u8s: &mut RowU8,
+    u16s: &mut RowU16,
+    f32s: &mut RowF32,
+    s: State,
+) -> State
     requires { ⌜ 0 < s .turns ⌝ }
     requires { ⌜ s .held < 65536 ⌝ }
     requires { ⌜ s .used ≤ 65536 ⌝ }
@@ -69,7 +87,7 @@ fn step(input: &mut Buffer, output: &mut Buffer, row: &mut Row, s: State) -> Sta
         };
     }
     let full = held + got;
-    let done = block(input, full, output, s.used, row);
+    let done = block(input, full, output, s.used, u8s, u16s, f32s);
     let next = done.next;
     State {
         held: keep(input, next, full),
@@ -112,7 +130,15 @@ fn end_line(input: &mut Buffer, held: usize) -> usize
 }
 
 // Answers every line of the first `full` bytes of input that has its newline.
-fn block(input: &[u8], full: usize, output: &mut Buffer, used: usize, row: &mut Row) -> Done
+fn block(
+    input: &[u8],
+    full: usize,
+    output: &mut Buffer,
+    used: usize,
+    u8s: &mut RowU8,
+    u16s: &mut RowU16,
+    f32s: &mut RowF32,
+) -> Done
     requires { ⌜ full ≤ length (now input) ⌝ }
     requires { ⌜ used ≤ 65536 ⌝ }
     ensures { λ r. ⌜ r .next ≤ full ⌝ }
@@ -126,18 +152,25 @@ fn block(input: &[u8], full: usize, output: &mut Buffer, used: usize, row: &mut 
         if end == rest.len() {
             break;
         }
-        used = put_line(output, used, row, &rest[..end]);
+        used = put_line(output, used, u8s, u16s, f32s, &rest[..end]);
         next = next + end + 1;
     }
     Done { next, used }
 }
 
 // The answer to a line, and a newline.
-fn put_line(output: &mut Buffer, used: usize, row: &mut Row, line: &[u8]) -> usize
+fn put_line(
+    output: &mut Buffer,
+    used: usize,
+    u8s: &mut RowU8,
+    u16s: &mut RowU16,
+    f32s: &mut RowF32,
+    line: &[u8],
+) -> usize
     requires { ⌜ used ≤ 65536 ⌝ }
     ensures { λ r. ⌜ r ≤ 65536 ⌝ }
 {
-    let said = put_reply(output, used, row, line);
+    let said = put_reply(output, used, u8s, u16s, f32s, line);
     put_byte(output, said, b'\n')
 }
 

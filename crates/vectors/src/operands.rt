@@ -1,6 +1,6 @@
-// The operands of a line: the digits of a value, one value, two values.
+// The operands of a line: the digits of a value, one value, two values, a value and a kind.
 ghost use mathlib.Core.Path.{_≡_};
-ghost use Rattle.vectors.specs.Operands.{withDigits, valueIn, valuesIn};
+ghost use Rattle.vectors.specs.Operands.{withDigits, valueIn, valuesIn, valueAndKindIn};
 use text::Number;
 use text::after;
 use text::before;
@@ -19,6 +19,11 @@ pub enum OneValue {
 
 pub enum TwoValues {
     Are(Value, Value),
+    Malformed,
+}
+
+pub enum ValueAndKind {
+    Are(Value, Kind),
     Malformed,
 }
 
@@ -56,4 +61,17 @@ pub(crate) fn values_in(s: &[u8]) -> TwoValues
         return TwoValues::Malformed;
     };
     TwoValues::Are(a, b)
+}
+
+// A value and a kind's name, parted by one space. No name holds a space.
+pub(crate) fn value_and_kind_in(s: &[u8]) -> ValueAndKind
+    ensures { λ r. ⌜ r ≡ valueAndKindIn (now (s .entry)) ⌝ }
+{
+    let OneValue::Is(v) = value_in(before(b' ', s)) else {
+        return ValueAndKind::Malformed;
+    };
+    let KindFound::Is(kind) = kind_named(after(b' ', s)) else {
+        return ValueAndKind::Malformed;
+    };
+    ValueAndKind::Are(v, kind)
 }

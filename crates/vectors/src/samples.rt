@@ -1,125 +1,142 @@
-// Samples of f32: eight digits each, joined by commas, and `-` where there are none. They are read into a row that is lent, and put from one.
-ghost use Prim.Native.Nat.{_≤_, _<_};
-ghost use lib.ListN.{length};
+// Samples as text: the digits of their kind each, joined by commas, and `-` where there are none. They are read into the row of their kind,
+// and put from it. And the number of samples that a row has room for.
+ghost use Prim.Native.Nat.{_≤_};
 use crate::operands::OneValue;
 use crate::operands::with_digits;
 use crate::output::Buffer;
 use crate::output::put_byte;
 use crate::output::put_hex;
+use crate::rows::RowF32;
+use crate::rows::RowU8;
+use crate::rows::RowU16;
+use crate::rows::sample_at;
+use crate::rows::store;
+use text::Number;
 use text::after;
 use text::before;
+use text::decimal_number;
+use text::digits_of;
 use text::word_number;
 use value::Kind;
 use value::Value;
-use value::bits_f32;
+use value::bits_of;
 
-// More samples than a line has room for.
-pub(crate) type Row = [f32; 8192];
-
-// The sample that a text is; x is 0 where it is none.
-pub struct Sample {
-    pub x: f32,
-    pub well_formed: bool,
-}
-
-// How many samples a text put at the front of a row; none where it is no list of samples.
-pub struct Samples {
+// How many samples a text has, or asks for; none where it is not of the grammar.
+pub struct Count {
     pub count: usize,
     pub well_formed: bool,
 }
 
-pub(crate) fn sample_in(s: &[u8]) -> Sample {
-    let OneValue::Is(v) = with_digits(Kind::F32, s) else {
-        return Sample {
-            x: 0.0,
-            well_formed: false,
-        };
-    };
-    match v {
-        Value::F32(x, _) => Sample {
-            x,
-            well_formed: true,
-        },
-        _ => Sample {
-            x: 0.0,
-            well_formed: false,
-        },
-    }
-}
-
-pub(crate) fn samples_in(s: &[u8], row: &mut [f32]) -> Samples
-    ensures { λ r. ⌜ r .count ≤ length (now (row .exit)) ⌝ }
+// Puts the samples of a text at the front of the row of their kind.
+pub(crate) fn samples_in(
+    kind: Kind,
+    s: &[u8],
+    u8s: &mut RowU8,
+    u16s: &mut RowU16,
+    f32s: &mut RowF32,
+) -> Count
+    ensures { λ r. ⌜ r .count ≤ 8192 ⌝ }
 {
     if word_number(s, b"-") == 0 {
-        return Samples {
-            count: 0,
-            well_formed: true,
-        };
+        return counted(0);
     }
-    list_in(s, row)
+    list_in(kind, s, u8s, u16s, f32s)
 }
 
-// Samples that do not fit in row are malformed.
-fn list_in(s: &[u8], row: &mut [f32]) -> Samples
-    ensures { λ r. ⌜ r .count ≤ length (now (row .exit)) ⌝ }
+// More samples than a row has are malformed.
+fn list_in(kind: Kind, s: &[u8], u8s: &mut RowU8, u16s: &mut RowU16, f32s: &mut RowF32) -> Count
+    ensures { λ r. ⌜ r .count ≤ 8192 ⌝ }
 {
     let mut rest = s;
     let mut n = 0;
-    while n < row.len() {
+    while n < 8192 {
         let first = before(b',', rest);
-        if !store_sample(first, row, n) {
-            break;
-        }
+        let OneValue::Is(v) = with_digits(kind, first) else {
+            return malformed();
+        };
+        store(v, n, u8s, u16s, f32s);
         n += 1;
         if first.len() == rest.len() {
-            return Samples {
-                count: n,
-                well_formed: true,
-            };
+            return counted(n);
         }
         let next = after(b',', rest);
         rest = next;
     }
-    Samples {
+    malformed()
+}
+
+// A decimal number of samples that a row has room for.
+pub(crate) fn length_in(s: &[u8]) -> Count
+    ensures { λ r. ⌜ r .count ≤ 8192 ⌝ }
+{
+    let Number::Is(n) = decimal_number(s) else {
+        return malformed();
+    };
+    if 8192 < n {
+        return malformed();
+    }
+    counted(n as usize)
+}
+
+fn counted(count: usize) -> Count
+    requires { ⌜ count ≤ 8192 ⌝ }
+    ensures { λ r. ⌜ r .count ≤ 8192 ⌝ }
+{
+    Count {
+        count,
+        well_formed: true,
+    }
+}
+
+fn malformed() -> Count
+    ensures { λ r. ⌜ r .count ≤ 8192 ⌝ }
+{
+    Count {
         count: 0,
         well_formed: false,
     }
 }
 
-// Puts the sample that s is at a place of row: whether it is one.
-fn store_sample(s: &[u8], row: &mut [f32], at: usize) -> bool
-    requires { ⌜ at < length (now row) ⌝ }
-{
-    let sample = sample_in(s);
-    row[at] = sample.x;
-    sample.well_formed
-}
-
-pub(crate) fn put_samples(output: &mut Buffer, used: usize, row: &[f32]) -> usize
+// Puts the first `count` samples of the row of a kind.
+pub(crate) fn put_samples(
+    output: &mut Buffer,
+    used: usize,
+    kind: Kind,
+    count: usize,
+    u8s: &RowU8,
+    u16s: &RowU16,
+    f32s: &RowF32,
+) -> usize
     requires { ⌜ used ≤ 65536 ⌝ }
+    requires { ⌜ count ≤ 8192 ⌝ }
     ensures { λ r. ⌜ r ≤ 65536 ⌝ }
 {
-    if row.len() == 0 {
+    if count == 0 {
         return put_byte(output, used, b'-');
     }
     let mut used = used;
     let mut i = 0;
-    while i < row.len() {
-        used = put_sample(output, used, i, row[i]);
+    while i < count {
+        used = put_sample(
+            output,
+            used,
+            i,
+            sample_at(kind, i, u8s, u16s, f32s),
+            digits_of(kind),
+        );
         i += 1;
     }
     used
 }
 
 // A comma stands before every sample but the first.
-fn put_sample(output: &mut Buffer, used: usize, at: usize, x: f32) -> usize
+fn put_sample(output: &mut Buffer, used: usize, at: usize, v: Value, digits: usize) -> usize
     requires { ⌜ used ≤ 65536 ⌝ }
     ensures { λ r. ⌜ r ≤ 65536 ⌝ }
 {
-    let bits = bits_f32(x, 0) as u64;
     if at == 0 {
-        return put_hex(output, used, bits, 8);
+        return put_hex(output, used, bits_of(v), digits);
     }
     let parted = put_byte(output, used, b',');
-    put_hex(output, parted, bits, 8)
+    put_hex(output, parted, bits_of(v), digits)
 }

@@ -5,10 +5,10 @@ use Rattle.vectors.proofs.block.Statement.{statement}
 use Rattle.vectors.proofs.block.Tie as tie
 
 abbrev Inv-loop : tie.InvT-loop
-Inv-loop input full output₀ used row₀ next₀ used₀ output row next used' = (next ≤ full) × (used' ≤ 65536)
+Inv-loop input full output₀ used u8s₀ u16s₀ f32s₀ next₀ used₀ output u8s u16s f32s next used' = (next ≤ full) × (used' ≤ 65536)
 
 abbrev μ-loop : tie.MeasureT-loop
-μ-loop input full output₀ used row₀ next₀ used₀ output row next used' = full - next
+μ-loop input full output₀ used u8s₀ u16s₀ f32s₀ next₀ used₀ output u8s u16s f32s next used' = full - next
 
 pub block-spec : {M : Type 1} → statement M
 block-spec =
