@@ -6,7 +6,7 @@ use value::Value;
 use value::bits_of;
 use value::value_of;
 
-// More samples than a line of rowclamp has room for.
+// The most samples that a line may have. Of f32 a line has room for fewer.
 pub(crate) type RowU8 = [u8; 8192];
 
 pub(crate) type RowU16 = [u16; 8192];
