@@ -32,16 +32,16 @@ neither true y h = (sym h, absurd (true≢false (sym h)))
 neither false true h = (refl, sym h)
 neither false false h = (refl, refl)
 
-module _ {A : Type 0} (one other : A) (o : Order) where
-  pub chosen-unordered : o ≡ Unordered → refuses 8 0 ≡ chosenBy one other o
+module _ {A : Type 0} (place : ℕ) (one other : A) (o : Order) where
+  pub chosen-unordered : o ≡ Unordered → refuses 8 place ≡ chosenBy place one other o
   unfolding chosenBy
-  chosen-unordered q = sym (ap (chosenBy one other) q)
+  chosen-unordered q = sym (ap (chosenBy place one other) q)
 
-  pub chosen-greater : o ≡ Greater → gives other ≡ chosenBy one other o
+  pub chosen-greater : o ≡ Greater → gives other ≡ chosenBy place one other o
   unfolding chosenBy
-  chosen-greater q = sym (ap (chosenBy one other) q)
+  chosen-greater q = sym (ap (chosenBy place one other) q)
 
-  pub chosen-other : not (isGreater o || isUnordered o) ≡ true → gives one ≡ chosenBy one other o
+  pub chosen-other : not (isGreater o || isUnordered o) ≡ true → gives one ≡ chosenBy place one other o
   unfolding chosenBy
   chosen-other h = let n = neither (isGreater o) (isUnordered o) h in simp (n .0, n .1)
 
@@ -54,13 +54,13 @@ compare-then next a b = go (kindsDiffer a b)
     go true = refl
     go false = refl
 
-pub min-chosen : (a b : Value) → andThen (compareOf a b) (chosenBy a b) ≡ minOf a b
+pub min-chosen : (a b : Value) → andThen (compareOf a b) (chosenBy 0 a b) ≡ minOf a b
 unfolding minOf
-min-chosen a b = compare-then (chosenBy a b) a b
+min-chosen a b = compare-then (chosenBy 0 a b) a b
 
-pub max-chosen : (a b : Value) → andThen (compareOf a b) (chosenBy b a) ≡ maxOf a b
+pub max-chosen : (a b : Value) → andThen (compareOf a b) (chosenBy 0 b a) ≡ maxOf a b
 unfolding maxOf
-max-chosen a b = compare-then (chosenBy b a) a b
+max-chosen a b = compare-then (chosenBy 0 b a) a b
 
 -- ---- the clamp
 

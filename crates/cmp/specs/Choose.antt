@@ -1,4 +1,5 @@
 -- Choosing between two values, and clamping one value or one sample. RULES.md: Choosing and clamping, Refusals.
+use Prim.Native.Nat.{ℕ}
 use mathlib.Core.Bool.{not, _||_, cond}
 use lib.Ieee.{Float, binary32, toBits, ofBits}
 use Rattle.float.specs.declared.Order.{Order}
@@ -36,21 +37,21 @@ valueOrder a b = orderOf (numberOf a) (numberOf b)
 abbrev pub sampleOrder : Float → Float → Order
 sampleOrder x y = float.compareOf 23 8 (toBits binary32 x) (toBits binary32 y)
 
--- what is chosen by an order: 8 when it is Unordered, the other one when it is Greater, else the first
-unfoldable pub chosenBy : {A : Type 0} → A → A → Order → Outcome A
-chosenBy one other o = refuseIf (isUnordered o) 8 0 (gives (cond (isGreater o) other one))
+-- what is chosen by an order: 8 with the place when it is Unordered, the other one when it is Greater, else the first
+unfoldable pub chosenBy : {A : Type 0} → ℕ → A → A → Order → Outcome A
+chosenBy place one other o = refuseIf (isUnordered o) 8 place (gives (cond (isGreater o) other one))
 
 -- min gives the second when the first is Greater, else the first
 unfoldable pub minOf : Value → Value → Outcome Value
 minOf a b =
     refuseIf (kindsDiffer a b) 7 0
-    (chosenBy a b (valueOrder a b))
+    (chosenBy 0 a b (valueOrder a b))
 
 -- max gives the first when it is Greater, else the second
 unfoldable pub maxOf : Value → Value → Outcome Value
 maxOf a b =
     refuseIf (kindsDiffer a b) 7 0
-    (chosenBy b a (valueOrder a b))
+    (chosenBy 0 b a (valueOrder a b))
 
 -- by the orders of the two bounds, of x and lower, and of x and upper: bounds that are not lower ≤ upper are 6, a NaN is 8;
 -- below-lower is tested first, then above-upper, and else x comes back as it is

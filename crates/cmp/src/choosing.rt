@@ -12,7 +12,7 @@ use value::Value;
 
 // The other one when the order is Greater, else the first.
 fn chosen_by(c: Compared, one: Value, other: Value) -> Chosen
-    ensures { λ r. ⌜ chosenOutcome r ≡ andThen (comparedOutcome c) (chosenBy one other) ⌝ }
+    ensures { λ r. ⌜ chosenOutcome r ≡ andThen (comparedOutcome c) (chosenBy 0 one other) ⌝ }
 {
     match c {
         Compared::Is(o) => match o {

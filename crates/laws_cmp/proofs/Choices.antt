@@ -14,11 +14,11 @@ use Rattle.laws_cmp.proofs.Comparison.{turned-order}
 -- ---- by the order of the first and the second: min_by and max_by over the fixed comparison
 
 module _ (a b : Value) where
-  min-at : (o : Order) → compareOf a b ≡ gives o → minOf a b ≡ chosenBy a b o
-  min-at o h = sym (min-chosen a b) ∙ ap (λ x. andThen x (chosenBy a b)) h
+  min-at : (o : Order) → compareOf a b ≡ gives o → minOf a b ≡ chosenBy 0 a b o
+  min-at o h = sym (min-chosen a b) ∙ ap (λ x. andThen x (chosenBy 0 a b)) h
 
-  max-at : (o : Order) → compareOf a b ≡ gives o → maxOf a b ≡ chosenBy b a o
-  max-at o h = sym (max-chosen a b) ∙ ap (λ x. andThen x (chosenBy b a)) h
+  max-at : (o : Order) → compareOf a b ≡ gives o → maxOf a b ≡ chosenBy 0 b a o
+  max-at o h = sym (max-chosen a b) ∙ ap (λ x. andThen x (chosenBy 0 b a)) h
 
   pub min-by-greater : compareOf a b ≡ gives Greater → minOf a b ≡ gives b
   unfolding chosenBy

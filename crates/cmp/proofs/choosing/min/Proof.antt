@@ -11,7 +11,7 @@ returns : tie.Need-returns
 returns c =
     let a = c .before .before .args .a in
     let b = c .before .before .args .b in
-    c .chosen-by .ensures ∙ ap (λ o. andThen o (chosenBy a b)) (c .before .compare .ensures) ∙ min-chosen a b
+    c .chosen-by .ensures ∙ ap (λ o. andThen o (chosenBy 0 a b)) (c .before .compare .ensures) ∙ min-chosen a b
 
 pub min-spec : {M : Type 1} → statement M
 min-spec = tie.close (tie.spec (λ c κs. search needs) (λ c κs. search needs) returns)

@@ -1,0 +1,152 @@
+-- Records: their fields, their comparison, the choice between two. RULES.md: Records, Refusals.
+use Prim.Native.Nat.{ℕ, suc, _-_, _+_}
+use mathlib.Core.Bool.{Bool, true, false, _||_, cond}
+use mathlib.Core.List.{List, [], _∷_, _++_, map}
+use lib.Dec.{eqb, ltb}
+use lib.ListN.{length, take, replicate, set, getD}
+use Rattle.float.specs.declared.Order.{Order}
+use Rattle.float.specs.declared.Order.the-variants.{Less, Equal, Greater, Unordered}
+use Rattle.float.specs.Order.{isEqual}
+use Rattle.value.specs.declared.Kind.{Kind}
+use Rattle.value.specs.declared.Kind.the-variants as kind
+use Rattle.value.specs.declared.Value.{Value}
+use Rattle.value.specs.declared.Value.the-variants.{U8}
+use Rattle.value.specs.Kinds.{kindOf}
+use Rattle.value.specs.Outcome.{Outcome, gives, refuses, refuseIf, refusalOf}
+use Rattle.cmp.specs.Compare.{kindsDiffer}
+use Rattle.cmp.specs.Choose.{valueOrder, chosenBy}
+use Rattle.record.specs.declared.Field.{Field}
+use Rattle.record.specs.declared.Record.{Record}
+use Rattle.record.specs.declared.Place.{Place}
+use Rattle.record.specs.declared.Shape.{Shape}
+use Rattle.record.specs.declared.Recorded.{Recorded}
+use Rattle.record.specs.declared.Shaped.{Shaped}
+use Rattle.record.specs.declared.Made.{Made}
+use Rattle.record.specs.declared.Made.the-variants as made
+use Rattle.record.specs.declared.Held.{Held}
+use Rattle.record.specs.declared.Held.the-variants as held
+
+-- ---- records and their fields
+
+abbrev pub fieldFor : Value → Field
+fieldFor v = record { value = v }
+
+-- the fields that count
+abbrev pub fieldsOf : Record → List Field
+fieldsOf r = take (r .count) (r .fields)
+
+-- count 0, and u8 0 in every place
+abbrev pub blank : Record
+blank = record { fields = replicate 12 (fieldFor (U8 0)); count = 0 }
+
+abbrev pub placeFor : Kind → Place
+placeFor k = record { kind = k }
+
+abbrev pub blankShape : Shape
+blankShape = record { places = replicate 12 (placeFor kind.U8); count = 0 }
+
+-- rule 11: a count of 0 or above 12
+abbrev pub badCount : ℕ → Bool
+badCount n = eqb n 0 || ltb 12 n
+
+-- ---- what the answers say in the words of the rules
+
+abbrev pub madeOf : {A : Type 0} → Outcome A → Made
+madeOf (gives a) = made.Done
+madeOf (refuses number place) = made.Refused (record { number = number; place = place })
+
+-- the result, or after a refusal what stands in for it
+abbrev pub resultOr : {A : Type 0} → A → Outcome A → A
+resultOr none (gives a) = a
+resultOr none (refuses number place) = none
+
+-- a record beside its outcome, and a shape
+abbrev pub recordedOf : Outcome Record → Recorded
+recordedOf o = record { outcome = madeOf o; «record» = resultOr blank o }
+
+abbrev pub shapedOf : Outcome Shape → Shaped
+shapedOf o = record { outcome = madeOf o; shape = resultOr blankShape o }
+
+abbrev pub heldOutcome : Held → Outcome Value
+heldOutcome (held.Is v) = gives v
+heldOutcome (held.Refused f) = refusalOf f
+
+-- ---- comparison
+
+-- the first order that is not Equal decides
+abbrev pub orElse : Order → Order → Order
+orElse Less o = Less
+orElse Equal o = o
+orElse Greater o = Greater
+orElse Unordered o = Unordered
+
+-- field by field, for fields of one shape
+unfoldable pub lexicalOf : List Field → List Field → Order
+lexicalOf [] ys = Equal
+lexicalOf (x ∷ xs) [] = Equal
+lexicalOf (x ∷ xs) (y ∷ ys) = orElse (valueOrder (x .value) (y .value)) (lexicalOf xs ys)
+
+-- rule 7: the number of fields, or a kind, differs
+unfoldable pub shapesDiffer : List Field → List Field → Bool
+shapesDiffer [] [] = false
+shapesDiffer [] (y ∷ ys) = true
+shapesDiffer (x ∷ xs) [] = true
+shapesDiffer (x ∷ xs) (y ∷ ys) = kindsDiffer (x .value) (y .value) || shapesDiffer xs ys
+
+-- rules 11 and 7, then what follows
+abbrev pub likeThen : {A : Type 0} → Record → Record → Outcome A → Outcome A
+likeThen a b next =
+    refuseIf (badCount (a .count) || badCount (b .count)) 11 0
+    (refuseIf (shapesDiffer (fieldsOf a) (fieldsOf b)) 7 0
+    next)
+
+unfoldable pub compareOf : Record → Record → Outcome Order
+compareOf a b = likeThen a b (gives (lexicalOf (fieldsOf a) (fieldsOf b)))
+
+-- ---- the choice between two
+
+-- the index of the field that decides
+unfoldable pub decidingOf : List Field → List Field → ℕ
+decidingOf [] ys = 0
+decidingOf (x ∷ xs) [] = 0
+decidingOf (x ∷ xs) (y ∷ ys) = cond (isEqual (valueOrder (x .value) (y .value))) (suc (decidingOf xs ys)) 0
+
+-- as for values, with the index of the deciding field as the place of 8
+unfoldable pub minOf : Record → Record → Outcome Record
+minOf a b = likeThen a b (chosenBy (decidingOf (fieldsOf a) (fieldsOf b)) a b (lexicalOf (fieldsOf a) (fieldsOf b)))
+
+unfoldable pub maxOf : Record → Record → Outcome Record
+maxOf a b = likeThen a b (chosenBy (decidingOf (fieldsOf a) (fieldsOf b)) b a (lexicalOf (fieldsOf a) (fieldsOf b)))
+
+-- ---- making, setting and reading
+
+-- a place past the twelve is 11: its field would make the count too high
+unfoldable pub setOf : Record → ℕ → Value → Outcome Record
+setOf r at v = refuseIf (ltb 11 at) 11 0 (gives (record { fields = set (r .fields) at (fieldFor v); count = r .count }))
+
+unfoldable pub getOf : Record → ℕ → Outcome Value
+getOf r at = refuseIf (ltb 11 at) 11 0 (gives (getD (r .fields) at (fieldFor (U8 0)) .value))
+
+-- one more field behind those that count
+unfoldable pub pushOf : Record → Value → Outcome Record
+pushOf r v = refuseIf (ltb 11 (r .count)) 11 0 (gives (record { fields = set (r .fields) (r .count) (fieldFor v); count = suc (r .count) }))
+
+-- ---- shapes
+
+abbrev pub kindsIn : Shape → List Kind
+kindsIn s = map (λ (p : Place). p .kind) (take (s .count) (s .places))
+
+abbrev pub kindsOf : List Field → List Kind
+kindsOf fs = map (λ (f : Field). kindOf (f .value)) fs
+
+-- the kinds of the fields that count, and u8 in the places past them
+abbrev pub shapeFor : List Kind → Shape
+shapeFor ks = record { places = map placeFor ks ++ replicate (12 - length ks) (placeFor kind.U8); count = length ks }
+
+-- a count of 0 or above 12 is 11
+unfoldable pub shapeOf : Record → Outcome Shape
+shapeOf r = refuseIf (badCount (r .count)) 11 0 (gives (shapeFor (kindsOf (fieldsOf r))))
+
+-- the record with these fields, and u8 0 in the places past them
+abbrev pub recordOf : List Field → Record
+recordOf fs = record { fields = fs ++ replicate (12 - length fs) (fieldFor (U8 0)); count = length fs }
