@@ -35,6 +35,10 @@ fieldFor v = record { value = v }
 abbrev pub fieldsOf : Record → List Field
 fieldsOf r = take (r .count) (r .fields)
 
+-- the value in a place
+abbrev pub valueAt : List Field → ℕ → Value
+valueAt fs at = getD fs at (fieldFor (U8 0)) .value
+
 -- count 0, and u8 0 in every place
 abbrev pub blank : Record
 blank = record { fields = replicate 12 (fieldFor (U8 0)); count = 0 }
@@ -125,7 +129,7 @@ unfoldable pub setOf : Record → ℕ → Value → Outcome Record
 setOf r at v = refuseIf (ltb 11 at) 11 0 (gives (record { fields = set (r .fields) at (fieldFor v); count = r .count }))
 
 unfoldable pub getOf : Record → ℕ → Outcome Value
-getOf r at = refuseIf (ltb 11 at) 11 0 (gives (getD (r .fields) at (fieldFor (U8 0)) .value))
+getOf r at = refuseIf (ltb 11 at) 11 0 (gives (valueAt (r .fields) at))
 
 -- one more field behind those that count
 unfoldable pub pushOf : Record → Value → Outcome Record

@@ -1,0 +1,84 @@
+-- The comparison and the choice, from the decision that they share.
+use Prim.Native.Nat.{ℕ, _≤_}
+use mathlib.Core.Path.{_≡_, refl, sym, _∙_, ap}
+use mathlib.Core.Bool.{Bool, true, false, _||_}
+use native.Mathlib.Nat.{zero-add}
+use lib.Dec.{eqb, ltb}
+use borrow.Author.Tests.{ltb-false}
+use Rattle.float.specs.declared.Order.{Order}
+use Rattle.value.specs.Outcome.{Outcome, gives, refuses, refuseIf, refusalOf, andThen}
+use Rattle.value.specs.declared.Refusal.{Refusal}
+use Rattle.cmp.specs.Choose.{chosenBy}
+use Rattle.record.specs.declared.Record.{Record}
+use Rattle.record.specs.declared.comparisons.Decision.{Decision}
+use Rattle.record.specs.declared.comparisons.Decided.{Decided}
+use Rattle.record.specs.declared.comparisons.Decided.the-variants as decided
+use Rattle.record.specs.Record.{fieldsOf, badCount, shapesDiffer, lexicalOf, decidingOf, likeThen, compareOf, minOf, maxOf}
+use Rattle.record.proofs.Steps.{or-false}
+use Rattle.record.specs.Decide.{decidedOutcome, decisionFrom, decideOf, chosenFrom}
+
+-- ---- after a decision
+
+module _ {B : Type 0} {d : Decided} where
+  pub then-decision : (next : Decision → Outcome B) {x : Decision} {r : Outcome B} → d ≡ decided.Is x → r ≡ next x → r ≡ andThen (decidedOutcome d) next
+  then-decision next q h = h ∙ sym (ap (λ (e : Decided). andThen (decidedOutcome e) next) q)
+
+  pub then-refusal : (next : Decision → Outcome B) {f : Refusal} → d ≡ decided.Refused f → refusalOf f ≡ andThen (decidedOutcome d) next
+  then-refusal next q = sym (ap (λ (e : Decided). andThen (decidedOutcome e) next) q)
+
+-- ---- the decision by the tests of rules 11 and 7
+
+pub good-count : (n : ℕ) → badCount n ≡ false → n ≤ 12
+good-count n h = ltb-false 12 n (or-false (eqb n 0) (ltb 12 n) h .1)
+
+module _ (a b : Record) {bad : Bool} (u : bad ≡ (badCount (a .count) || badCount (b .count))) where
+  pub decide-bad : bad ≡ true → refuses 11 0 ≡ decideOf a b
+  unfolding decideOf
+  decide-bad h = rw (← u, h)
+
+  module _ (h : bad ≡ false) where
+    pub good-counts : (a .count ≤ 12) × (b .count ≤ 12)
+    good-counts =
+        let p = or-false (badCount (a .count)) (badCount (b .count)) (sym u ∙ h) in
+        (good-count (a .count) (p .0), good-count (b .count) (p .1))
+
+    pub decide-differ : {differ : Bool} → differ ≡ shapesDiffer (fieldsOf a) (fieldsOf b) → differ ≡ true → refuses 7 0 ≡ decideOf a b
+    unfolding decideOf
+    decide-differ v t = rw (← u, h, ← v, t)
+
+    pub decide-given : {d : Decision} → shapesDiffer (fieldsOf a) (fieldsOf b) ≡ false → d ≡ decisionFrom 0 (fieldsOf a) (fieldsOf b) → gives d ≡ decideOf a b
+    unfolding decideOf
+    decide-given s q = rw (← u, h, s, q)
+
+-- ---- what follows two records of one shape
+
+like-then : {A B : Type 0} (a b : Record) (o : Outcome A) (next : A → Outcome B) → andThen (likeThen a b o) next ≡ likeThen a b (andThen o next)
+like-then {A} {B} a b o next = go (badCount (a .count) || badCount (b .count)) (shapesDiffer (fieldsOf a) (fieldsOf b))
+  where
+    go : (s t : Bool) → andThen (refuseIf s 11 0 (refuseIf t 7 0 o)) next ≡ refuseIf s 11 0 (refuseIf t 7 0 (andThen o next))
+    go true t = refl
+    go false true = refl
+    go false false = refl
+
+abbrev pub orderIn : Decision → Outcome Order
+orderIn d = gives (d .order)
+
+module _ (a b : Record) where
+  pub compare-decided : andThen (decideOf a b) orderIn ≡ compareOf a b
+  unfolding decideOf compareOf
+  compare-decided = like-then a b (gives (decisionFrom 0 (fieldsOf a) (fieldsOf b))) orderIn
+
+  chosen-decided : (one other : Record) → andThen (decideOf a b) (chosenFrom one other)
+      ≡ likeThen a b (chosenBy (decidingOf (fieldsOf a) (fieldsOf b)) one other (lexicalOf (fieldsOf a) (fieldsOf b)))
+  unfolding decideOf
+  chosen-decided one other =
+      like-then a b (gives (decisionFrom 0 (fieldsOf a) (fieldsOf b))) (chosenFrom one other)
+      ∙ ap (λ (n : ℕ). likeThen a b (chosenBy n one other (lexicalOf (fieldsOf a) (fieldsOf b)))) (zero-add (decidingOf (fieldsOf a) (fieldsOf b)))
+
+  pub min-decided : andThen (decideOf a b) (chosenFrom a b) ≡ minOf a b
+  unfolding minOf
+  min-decided = chosen-decided a b
+
+  pub max-decided : andThen (decideOf a b) (chosenFrom b a) ≡ maxOf a b
+  unfolding maxOf
+  max-decided = chosen-decided b a

@@ -1,0 +1,17 @@
+-- The test of the place, then the value in it.
+use borrow.Author.Tests.{lt-ltb, le-ltb}
+use borrow.Author.Needs.{needs}
+use Rattle.record.specs.Record.{getOf}
+use Rattle.record.proofs.makings.get.Statement.{statement}
+use Rattle.record.proofs.makings.get.Tie as tie
+
+returns : tie.Need-returns
+unfolding getOf
+returns c = rw (lt-ltb _ _ (c .if1 .taken))
+
+returns-2 : tie.Need-returns-2
+unfolding getOf
+returns-2 c = rw (le-ltb _ _ (c .before .if1 .left), c .value-at .ensures)
+
+pub get-spec : {M : Type 1} → statement M
+get-spec = tie.close (tie.spec returns (λ c κs. search needs) returns-2)

@@ -1,0 +1,25 @@
+-- How two records compare, together with the index of the field that decides: what the comparison and the choice share.
+use Prim.Native.Nat.{ℕ, _+_}
+use mathlib.Core.List.{List}
+use Rattle.value.specs.Outcome.{Outcome, gives, refusalOf}
+use Rattle.cmp.specs.Choose.{chosenBy}
+use Rattle.record.specs.declared.Field.{Field}
+use Rattle.record.specs.declared.Record.{Record}
+use Rattle.record.specs.declared.comparisons.Decision.{Decision}
+use Rattle.record.specs.declared.comparisons.Decided.{Decided}
+use Rattle.record.specs.declared.comparisons.Decided.the-variants as decided
+use Rattle.record.specs.Record.{fieldsOf, lexicalOf, decidingOf, likeThen}
+
+abbrev pub decidedOutcome : Decided → Outcome Decision
+decidedOutcome (decided.Is d) = gives d
+decidedOutcome (decided.Refused f) = refusalOf f
+
+-- of the fields from a place on
+abbrev pub decisionFrom : ℕ → List Field → List Field → Decision
+decisionFrom at xs ys = record { order = lexicalOf xs ys; at = at + decidingOf xs ys }
+
+unfoldable pub decideOf : Record → Record → Outcome Decision
+decideOf a b = likeThen a b (gives (decisionFrom 0 (fieldsOf a) (fieldsOf b)))
+
+abbrev pub chosenFrom : Record → Record → Decision → Outcome Record
+chosenFrom one other d = chosenBy (d .at) one other (d .order)

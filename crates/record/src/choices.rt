@@ -1,0 +1,45 @@
+// The lower and the higher of two records. RULES.md: Records.
+ghost use mathlib.Core.Path.{_≡_};
+ghost use Rattle.value.specs.Outcome.{andThen};
+ghost use Rattle.record.specs.Record.{recordedOf, minOf, maxOf};
+ghost use Rattle.record.specs.Decide.{decidedOutcome, chosenFrom};
+use crate::Record;
+use crate::Recorded;
+use crate::comparisons::Decided;
+use crate::comparisons::decide;
+use crate::makings::done;
+use crate::makings::refused;
+use float::Order;
+use value::Refusal;
+
+// The other one when the order is Greater, else the first.
+fn chosen_by(d: Decided, one: Record, other: Record) -> Recorded
+    ensures { λ r. ⌜ r ≡ recordedOf (andThen (decidedOutcome d) (chosenFrom one other)) ⌝ }
+{
+    match d {
+        Decided::Is(x) => {
+            let o = x.order;
+            match o {
+                Order::Unordered => refused(Refusal {
+                    number: 8,
+                    place: x.at,
+                }),
+                Order::Greater => done(other),
+                _ => done(one),
+            }
+        }
+        Decided::Refused(f) => refused(f),
+    }
+}
+
+pub fn min(a: Record, b: Record) -> Recorded
+    ensures { λ r. ⌜ r ≡ recordedOf (minOf a b) ⌝ }
+{
+    chosen_by(decide(a, b), a, b)
+}
+
+pub fn max(a: Record, b: Record) -> Recorded
+    ensures { λ r. ⌜ r ≡ recordedOf (maxOf a b) ⌝ }
+{
+    chosen_by(decide(a, b), b, a)
+}

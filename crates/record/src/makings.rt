@@ -1,0 +1,95 @@
+// Making records, setting their places and reading them. RULES.md: Records.
+ghost use mathlib.Core.Path.{_≡_};
+ghost use Prim.Native.Nat.{_<_};
+ghost use Rattle.value.specs.Outcome.{gives, refusalOf};
+ghost use Rattle.record.specs.Record as spec;
+ghost use Rattle.record.specs.Record.{valueAt, recordedOf, heldOutcome, setOf, getOf, pushOf};
+use crate::Field;
+use crate::Held;
+use crate::Made;
+use crate::Record;
+use crate::Recorded;
+use value::Refusal;
+use value::Value;
+
+pub fn blank() -> Record
+    ensures { λ r. ⌜ r ≡ spec.blank ⌝ }
+{
+    let z = Field {
+        value: Value::U8(0),
+    };
+    Record {
+        fields: [z; 12],
+        count: 0,
+    }
+}
+
+pub(crate) fn done(r: Record) -> Recorded
+    ensures { λ s. ⌜ s ≡ recordedOf (gives r) ⌝ }
+{
+    Recorded {
+        outcome: Made::Done,
+        record: r,
+    }
+}
+
+pub(crate) fn refused(f: Refusal) -> Recorded
+    ensures { λ s. ⌜ s ≡ recordedOf (refusalOf f) ⌝ }
+{
+    Recorded {
+        outcome: Made::Refused(f),
+        record: blank(),
+    }
+}
+
+pub fn set(r: Record, at: usize, v: Value) -> Recorded
+    ensures { λ s. ⌜ s ≡ recordedOf (setOf r at v) ⌝ }
+{
+    if 11 < at {
+        return refused(Refusal {
+            number: 11,
+            place: 0,
+        });
+    }
+    let mut changed = r;
+    changed.fields[at] = Field { value: v };
+    done(changed)
+}
+
+pub(crate) fn value_at(r: Record, at: usize) -> Value
+    requires { ⌜ at < 12 ⌝ }
+    ensures { λ v. ⌜ v ≡ valueAt (r .fields) at ⌝ }
+{
+    let field = r.fields[at];
+    let v = field.value;
+    v
+}
+
+pub fn get(r: Record, at: usize) -> Held
+    ensures { λ h. ⌜ heldOutcome h ≡ getOf r at ⌝ }
+{
+    if 11 < at {
+        return Held::Refused(Refusal {
+            number: 11,
+            place: 0,
+        });
+    }
+    Held::Is(value_at(r, at))
+}
+
+// One more field behind those that count.
+pub fn push(r: Record, v: Value) -> Recorded
+    ensures { λ s. ⌜ s ≡ recordedOf (pushOf r v) ⌝ }
+{
+    let at = r.count;
+    if 11 < at {
+        return refused(Refusal {
+            number: 11,
+            place: 0,
+        });
+    }
+    let mut changed = r;
+    changed.fields[at] = Field { value: v };
+    changed.count = at + 1;
+    done(changed)
+}

@@ -1,0 +1,100 @@
+// Counts and shapes of records. RULES.md: Records.
+ghost use mathlib.Core.Path.{_≡_};
+ghost use mathlib.Core.Bool.{_||_};
+ghost use Prim.Native.Nat.{_≤_, _<_};
+ghost use Rattle.value.specs.Kinds.{kindOf, kindNumber};
+ghost use Rattle.record.specs.Record.{fieldsOf, valueAt, badCount, shapesDiffer, kindsOf, blankShape, shapeFor, shapedOf, shapeOf};
+use crate::Made;
+use crate::Place;
+use crate::Record;
+use crate::Shape;
+use crate::Shaped;
+use crate::makings::value_at;
+use value::Kind;
+use value::Refusal;
+
+// Rule 11.
+fn bad_count(n: usize) -> bool
+    ensures { λ r. ⌜ r ≡ badCount n ⌝ }
+{
+    n == 0 || 12 < n
+}
+
+pub(crate) fn bad_counts(n: usize, m: usize) -> bool
+    ensures { λ r. ⌜ r ≡ (badCount n || badCount m) ⌝ }
+{
+    bad_count(n) || bad_count(m)
+}
+
+fn kind_number_at(r: Record, at: usize) -> u8
+    requires { ⌜ at < 12 ⌝ }
+    ensures { λ n. ⌜ n ≡ kindNumber (kindOf (valueAt (r .fields) at)) ⌝ }
+{
+    value::kind_number(value::kind_of(value_at(r, at)))
+}
+
+// Rule 7.
+pub(crate) fn shapes_differ(a: Record, b: Record) -> bool
+    requires { ⌜ (a .count ≤ 12) × (b .count ≤ 12) ⌝ }
+    ensures { λ r. ⌜ r ≡ shapesDiffer (fieldsOf a) (fieldsOf b) ⌝ }
+{
+    let n = a.count;
+    if n != b.count {
+        return true;
+    }
+    let mut at = 0;
+    while at < n {
+        if kind_number_at(a, at) != kind_number_at(b, at) {
+            return true;
+        }
+        at += 1;
+    }
+    false
+}
+
+fn blank_shape() -> Shape
+    ensures { λ s. ⌜ s ≡ blankShape ⌝ }
+{
+    let p = Place { kind: Kind::U8 };
+    Shape {
+        places: [p; 12],
+        count: 0,
+    }
+}
+
+// The kinds of the fields that count, and u8 in the places past them.
+fn shape_for(r: Record) -> Shape
+    requires { ⌜ r .count ≤ 12 ⌝ }
+    ensures { λ s. ⌜ s ≡ shapeFor (kindsOf (fieldsOf r)) ⌝ }
+{
+    let n = r.count;
+    let mut s = blank_shape();
+    let mut at = 0;
+    while at < n {
+        s.places[at] = Place {
+            kind: value::kind_of(value_at(r, at)),
+        };
+        at += 1;
+    }
+    s.count = n;
+    s
+}
+
+pub fn shape_of(r: Record) -> Shaped
+    ensures { λ s. ⌜ s ≡ shapedOf (shapeOf r) ⌝ }
+{
+    if bad_count(r.count) {
+        Shaped {
+            outcome: Made::Refused(Refusal {
+                number: 11,
+                place: 0,
+            }),
+            shape: blank_shape(),
+        }
+    } else {
+        Shaped {
+            outcome: Made::Done,
+            shape: shape_for(r),
+        }
+    }
+}
