@@ -3,3 +3,5 @@ pub mod OneKind
 pub mod Deciding
 pub mod OneShape
 pub mod Shaping
+pub mod Determined
+pub mod Cases

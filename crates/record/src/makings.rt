@@ -68,28 +68,29 @@ pub(crate) fn value_at(r: Record, at: usize) -> Value
 pub fn get(r: Record, at: usize) -> Held
     ensures { λ h. ⌜ heldOutcome h ≡ getOf r at ⌝ }
 {
-    if 11 < at {
-        return Held::Refused(Refusal {
+    if at < 12 {
+        Held::Is(value_at(r, at))
+    } else {
+        Held::Refused(Refusal {
             number: 11,
             place: 0,
-        });
+        })
     }
-    Held::Is(value_at(r, at))
 }
 
 // One more field behind those that count.
 pub fn push(r: Record, v: Value) -> Recorded
     ensures { λ s. ⌜ s ≡ recordedOf (pushOf r v) ⌝ }
 {
-    let at = r.count;
-    if 11 < at {
+    let end = r.count;
+    if 11 < end {
         return refused(Refusal {
             number: 11,
             place: 0,
         });
     }
     let mut changed = r;
-    changed.fields[at] = Field { value: v };
-    changed.count = at + 1;
+    changed.fields[end] = Field { value: v };
+    changed.count = end + 1;
     done(changed)
 }

@@ -67,16 +67,16 @@ fn shape_for(r: Record) -> Shape
     requires { ⌜ r .count ≤ 12 ⌝ }
     ensures { λ s. ⌜ s ≡ shapeFor (kindsOf (fieldsOf r)) ⌝ }
 {
-    let n = r.count;
+    let count = r.count;
     let mut s = blank_shape();
     let mut at = 0;
-    while at < n {
+    while at < count {
         s.places[at] = Place {
             kind: value::kind_of(value_at(r, at)),
         };
         at += 1;
     }
-    s.count = n;
+    s.count = count;
     s
 }
 

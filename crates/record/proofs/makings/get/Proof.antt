@@ -1,4 +1,5 @@
 -- The test of the place, then the value in it.
+use native.Mathlib.Nat.{le-of-suc-le-suc}
 use borrow.Author.Tests.{lt-ltb, le-ltb}
 use borrow.Author.Needs.{needs}
 use Rattle.record.specs.Record.{getOf}
@@ -7,11 +8,11 @@ use Rattle.record.proofs.makings.get.Tie as tie
 
 returns : tie.Need-returns
 unfolding getOf
-returns c = rw (lt-ltb _ _ (c .if1 .taken))
+returns c = rw (le-ltb _ _ (le-of-suc-le-suc (c .before .if1 .taken)), c .value-at .ensures)
 
 returns-2 : tie.Need-returns-2
 unfolding getOf
-returns-2 c = rw (le-ltb _ _ (c .before .if1 .left), c .value-at .ensures)
+returns-2 c = rw (lt-ltb _ _ (c .if1 .left))
 
 pub get-spec : {M : Type 1} → statement M
-get-spec = tie.close (tie.spec returns (λ c κs. search needs) returns-2)
+get-spec = tie.close (tie.spec (λ c κs. search needs) returns returns-2)

@@ -12,10 +12,10 @@ use Rattle.record.proofs.shapes.shape_for.Statement.{statement}
 use Rattle.record.proofs.shapes.shape_for.Tie as tie
 
 abbrev Inv-loop : tie.InvT-loop
-Inv-loop r n s₀ at₀ s at = (at ≤ r .count) × (s .places ≡ placesFrom at (kindsOf (take at (r .fields))))
+Inv-loop r count s₀ at₀ s at = (at ≤ r .count) × (s .places ≡ placesFrom at (kindsOf (take at (r .fields))))
 
 abbrev μ-loop : tie.MeasureT-loop
-μ-loop r n s₀ at₀ s at = n - at
+μ-loop r count s₀ at₀ s at = count - at
 
 loop-holds : tie.Need-loop-holds Inv-loop μ-loop
 loop-holds c = (omega arith, ap (λ (s : Shape). s .places) (c .blank-shape .ensures))
