@@ -16,7 +16,7 @@ use Rattle.laws_cmp.specs.Laws.{PartialOrder}
 
 -- ---- Equal and eq
 
-equal-tested : (o : Outcome Order) → o ≡ gives Equal → mapped isEqual o ≡ gives true
+pub equal-tested : (o : Outcome Order) → o ≡ gives Equal → mapped isEqual o ≡ gives true
 equal-tested o q = ap (mapped isEqual) q
 
 is-equal : (o : Order) → isEqual o ≡ true → o ≡ Equal
@@ -25,7 +25,7 @@ is-equal Equal h = refl
 is-equal Greater h = cc
 is-equal Unordered h = cc
 
-tested-equal : (o : Outcome Order) → mapped isEqual o ≡ gives true → o ≡ gives Equal
+pub tested-equal : (o : Outcome Order) → mapped isEqual o ≡ gives true → o ≡ gives Equal
 tested-equal (gives o) h = ap gives (is-equal o (cc))
 tested-equal (refuses n p) h = cc
 

@@ -3,3 +3,5 @@ pub mod TotalOrder
 pub mod Integers
 pub mod Carried
 pub mod Choices
+pub mod Fields
+pub mod Records

@@ -1,13 +1,17 @@
 -- What a comparison owes. A refusal is no order: two values of different kinds meet no law, and need none.
 use mathlib.Core.Path.{_≡_}
 use mathlib.Core.Logic.{_⊎_}
-use mathlib.Core.Bool.{Bool, true}
+use mathlib.Core.Bool.{Bool, true, false}
+use mathlib.Core.List.{List, [], _∷_}
 use lib.Dec.{T, ltb}
 use Rattle.float.specs.declared.Order.{Order}
 use Rattle.float.specs.declared.Order.the-variants.{Less, Equal, Greater}
 use Rattle.value.specs.declared.Value.{Value}
 use Rattle.value.specs.Kinds.{kindOf, kindNumber}
 use Rattle.value.specs.Outcome.{Outcome, gives}
+use Rattle.record.specs.declared.Field.{Field}
+use Rattle.record.specs.declared.Record.{Record}
+use Rattle.record.specs.Record.{fieldsOf, kindsOf, badCount}
 
 -- obeys_partial_cmp_spec_properties, with symmetry and transitivity of eq in place of obeys_eq_spec_properties
 pub record PartialOrder {A : Type 0} (compare : A → A → Outcome Order) (eq : A → A → Outcome Bool) : Type 0 where
@@ -39,3 +43,21 @@ OneKind x y = kindOf x ≡ kindOf y
 
 abbrev pub OneIntegerKind : Value → Value → Type 0
 OneIntegerKind x y = T (ltb (kindNumber (kindOf x)) 8) × OneKind x y
+
+-- ---- records
+
+-- every field is of an integer kind
+abbrev pub AllIntegers : List Field → Type 0
+AllIntegers [] = Unit
+AllIntegers (x ∷ xs) = T (ltb (kindNumber (kindOf (x .value))) 8) × AllIntegers xs
+
+-- two records of 1 to 12 fields with the same kinds, and two with integer kinds alone
+abbrev pub OneShape : Record → Record → Type 0
+OneShape a b = (badCount (a .count) ≡ false) × (badCount (b .count) ≡ false) × (kindsOf (fieldsOf a) ≡ kindsOf (fieldsOf b))
+
+abbrev pub OneIntegerShape : Record → Record → Type 0
+OneIntegerShape a b = AllIntegers (fieldsOf a) × OneShape a b
+
+-- the fields that count are the same
+abbrev pub SameFields : Record → Record → Type 0
+SameFields a b = fieldsOf a ≡ fieldsOf b
