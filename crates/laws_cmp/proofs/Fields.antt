@@ -15,7 +15,7 @@ use Rattle.cmp.specs.Choose.{valueOrder}
 use Rattle.cmp.proofs.Given.{compared-order, order-compared}
 use Rattle.record.specs.declared.Field.{Field}
 use Rattle.record.specs.Record.{fieldFor, kindsOf, orElse, lexicalOf}
-use Rattle.laws_cmp.specs.Laws.{AllIntegers, OneIntegerKind}
+use Rattle.laws_cmp.specs.Laws.{AllIntegers, AllEqual, OneIntegerKind}
 use Rattle.laws_cmp.proofs.Integers.{integers-linear-order}
 
 -- ---- the first order that is not Equal
@@ -37,6 +37,20 @@ equal-else Less p h = (h, cc)
 equal-else Equal p h = (refl, h)
 equal-else Greater p h = (h, cc)
 equal-else Unordered p h = (h, cc)
+
+-- ---- Equal exactly when every field is
+
+pub every-equal : (xs ys : List Field) → lexicalOf xs ys ≡ Equal → AllEqual xs ys
+unfolding lexicalOf
+every-equal [] ys h = tt
+every-equal (x ∷ xs) [] h = tt
+every-equal (x ∷ xs) (y ∷ ys) h = let e = equal-else (valueOrder (x .value) (y .value)) (lexicalOf xs ys) h in (e .0, every-equal xs ys (e .1))
+
+pub equal-every : (xs ys : List Field) → AllEqual xs ys → lexicalOf xs ys ≡ Equal
+unfolding lexicalOf
+equal-every [] ys t = refl
+equal-every (x ∷ xs) [] t = refl
+equal-every (x ∷ xs) (y ∷ ys) t = rw (t .0) (equal-every xs ys (t .1))
 
 -- ---- turned round
 

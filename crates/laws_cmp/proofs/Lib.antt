@@ -5,3 +5,4 @@ pub mod Carried
 pub mod Choices
 pub mod Fields
 pub mod Records
+pub mod RecordChoices

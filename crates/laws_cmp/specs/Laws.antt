@@ -9,6 +9,7 @@ use Rattle.float.specs.declared.Order.the-variants.{Less, Equal, Greater}
 use Rattle.value.specs.declared.Value.{Value}
 use Rattle.value.specs.Kinds.{kindOf, kindNumber}
 use Rattle.value.specs.Outcome.{Outcome, gives}
+use Rattle.cmp.specs.Choose.{valueOrder}
 use Rattle.record.specs.declared.Field.{Field}
 use Rattle.record.specs.declared.Record.{Record}
 use Rattle.record.specs.Record.{fieldsOf, kindsOf, badCount}
@@ -61,3 +62,9 @@ OneIntegerShape a b = AllIntegers (fieldsOf a) × OneShape a b
 -- the fields that count are the same
 abbrev pub SameFields : Record → Record → Type 0
 SameFields a b = fieldsOf a ≡ fieldsOf b
+
+-- every field is Equal
+abbrev pub AllEqual : List Field → List Field → Type 0
+AllEqual [] ys = Unit
+AllEqual (x ∷ xs) [] = Unit
+AllEqual (x ∷ xs) (y ∷ ys) = (valueOrder (x .value) (y .value) ≡ Equal) × AllEqual xs ys
