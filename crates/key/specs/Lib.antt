@@ -1,2 +1,3 @@
 pub mod Key
 pub mod Prefix
+pub mod Theorem
