@@ -35,7 +35,7 @@ bytes-drop zero b = b
 bytes-drop (suc n) none = none
 bytes-drop (suc n) (more x xs h b) = bytes-drop n b
 
-bytes-append : {a b : List ℕ} → Bytes a → Bytes b → Bytes (a ++ b)
+pub bytes-append : {a b : List ℕ} → Bytes a → Bytes b → Bytes (a ++ b)
 bytes-append none k = k
 bytes-append (more x xs h b) k = more x _ h (bytes-append b k)
 
@@ -170,3 +170,18 @@ pub bytes-equal : (a : List ℕ) → bytesOrder a a ≡ Equal
 unfolding bytesOrder
 bytes-equal [] = refl
 bytes-equal (x ∷ a) = rw (order-equal x x refl) (bytes-equal a)
+
+-- else the first byte that differs decides
+pub first-difference : (a b : List ℕ) → length a ≡ length b → (a ≡ b → ⊥)
+    → (i : ℕ) × (i < length a) × (take i a ≡ take i b) × (getD a i 0 ≡ getD b i 0 → ⊥) × (bytesOrder a b ≡ orderN (getD a i 0) (getD b i 0))
+unfolding bytesOrder
+first-difference [] [] q d = absurd (d refl)
+first-difference [] (y ∷ b) q d = absurd (omega arith)
+first-difference (x ∷ a) [] q d = absurd (omega arith)
+first-difference (x ∷ a) (y ∷ b) q d = elim (three-ways x y) [
+  | inl l ↦ (0, omega arith, refl, (λ r. omega arith), rw (order-less x y l))
+  | inr (inl r) ↦
+      let rest = first-difference a b (omega arith) (λ s. d cc) in
+      (suc (rest .0), omega (arith, rest .1), cc (r, rest .2), rest .3, rw (order-equal x y r) (rest .4))
+  | inr (inr l) ↦ (0, omega arith, refl, (λ r. omega arith), rw (order-greater x y l))
+]

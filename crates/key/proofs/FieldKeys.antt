@@ -4,7 +4,6 @@ use mathlib.Core.Path.{_≡_, refl, sym, ap, _∙_, subst}
 use mathlib.Core.Bool.{false}
 use Prim.Native.Nat.{ℕ, _%_, _-_, _^_, _<_}
 use native.Mathlib.Nat.{mod-eq-of-lt}
-use native.Mathlib.Omega.{arith}
 use lib.Signed.{mag}
 use lib.IntN.{ℤ, pos, negsuc}
 use lib.Ieee.{Format, binary32, binary64}
@@ -22,6 +21,7 @@ use Rattle.cmp.specs.Choose.{valueOrder}
 use Rattle.cmp.proofs.Numbers.{integers-order}
 use Rattle.key.specs.Key.{keyIn, keyNumber, bytesOf, bitsFrom, notCanonical}
 use Rattle.key.specs.Theorem.{InRange, Keyed, normal}
+use Rattle.key.proofs.Passing.{clash}
 use Rattle.key.proofs.SignedKeys.{shifted-order, shifted-below, shifted-read, read-shifted}
 use Rattle.key.proofs.FloatFields.{float-below, float-canonical, float-read, word-read, float-order, made-some, made-key}
 
@@ -47,9 +47,6 @@ content-form (F64 x w) = refl
 signed-order : (k : ℕ) (y z : ℤ) → mag y < 2 ^ (k - 1) → mag z < 2 ^ (k - 1)
     → orderN (keyIn (integer k y)) (keyIn (integer k z)) ≡ orderOf (float-number.numberOf (exactIn (integer k y))) (float-number.numberOf (exactIn (integer k z)))
 signed-order k y z h l = shifted-order (2 ^ (k - 1)) y z h l ∙ integers-order y z
-
-clash : {A : Type 0} → _≡_ {A = ℕ} 0 1 → A
-clash q = absurd (omega arith)
 
 content-order : (c d : Content) → formIn c ≡ formIn d → InRange c → InRange d → isNone (exactIn c) ≡ false → isNone (exactIn d) ≡ false
     → orderN (keyIn c) (keyIn d) ≡ orderOf (float-number.numberOf (exactIn c)) (float-number.numberOf (exactIn d))

@@ -1,6 +1,6 @@
 -- A float that is held as a float, over the format: its bits are a pattern that is no NaN, and so the laws of patterns hold of it.
 use mathlib.Core.Path.{_≡_, refl, sym, ap, _∙_, subst}
-use mathlib.Core.Bool.{Bool, true, false, not, _||_, cond, true≢false}
+use mathlib.Core.Bool.{Bool, true, false, not, cond, true≢false}
 use Prim.Native.Nat.{ℕ, _+_, _-_, _*_, _%_, _^_, _<_}
 use native.Mathlib.Nat.{mod-eq-of-lt}
 use native.Mathlib.Omega.{arith}
@@ -20,6 +20,7 @@ use Rattle.value.proofs.FloatBits.{bits-number, bits-nan, word-nan, word-other,
 use Rattle.cmp.proofs.Numbers.{patterns-order}
 use Rattle.key.specs.Key.{floatKey, patternFrom, keyIn, notCanonical}
 use Rattle.key.specs.Theorem.{plusZero}
+use Rattle.key.proofs.Passing.{neither}
 use Rattle.key.proofs.FloatKeys.{key-below, key-order, from-below, from-key, key-canonical, key-from}
 
 -- ---- the two formats
@@ -60,15 +61,6 @@ times-none : (k : ℕ) (y : Exact) → isNone (times k y) ≡ isNone y
 times-none k notNumber = refl
 times-none k (infinite s) = refl
 times-none k (finite s m) = refl
-
--- neither of two
-left-false : (a b : Bool) → (a || b) ≡ false → a ≡ false
-left-false true b h = h
-left-false false b h = refl
-
-right-false : (a b : Bool) → (a || b) ≡ false → b ≡ false
-right-false true b h = absurd (true≢false h)
-right-false false b h = h
 
 -- ---- a float that is no NaN
 
@@ -112,7 +104,7 @@ module _ (f : Format) (x : Float) (w : ℕ) (h : T (fits f x)) (s : isNone (exac
       go false = ofBits-toBits f x h
 
   pub word-read : wordFor (fractionOf f) (exponentOf f) readBits ≡ 0
-  word-read = sym (word-none (fractionOf f) (exponentOf f) readBits (sym (ap (nanOf (fractionOf f) (exponentOf f)) read-is ∙ left-false _ _ float-canonical)))
+  word-read = sym (word-none (fractionOf f) (exponentOf f) readBits (sym (ap (nanOf (fractionOf f) (exponentOf f)) read-is ∙ neither _ _ float-canonical .0)))
 
 pub float-order : (f : Format) (x y : Float) (v w : ℕ) → T (fits f x) → T (fits f y) → isNone (exactIn (real f x v)) ≡ false → isNone (exactIn (real f y w)) ≡ false
     → orderN (keyIn (real f x v)) (keyIn (real f y w)) ≡ orderOf (float-number.numberOf (exactIn (real f x v))) (float-number.numberOf (exactIn (real f y w)))
@@ -134,7 +126,7 @@ module _ (f : Format) (n : ℕ) (h : n < 2 * signOf (fractionOf f) (exponentOf f
   made-small = rw made-is (below-top f _ (from-below (fractionOf f) (exponentOf f) n h))
 
   made-number : isNan (ofBits f madeBits) ≡ false
-  made-number = nan-pattern f madeBits made-small ∙ ap (nanOf (fractionOf f) (exponentOf f)) made-is ∙ left-false _ _ c
+  made-number = nan-pattern f madeBits made-small ∙ ap (nanOf (fractionOf f) (exponentOf f)) made-is ∙ neither _ _ c .0
 
   abbrev madeFloat : Content
   madeFloat = real f (ofBits f madeBits) (wordFor (fractionOf f) (exponentOf f) madeBits)
@@ -150,4 +142,4 @@ module _ (f : Format) (n : ℕ) (h : n < 2 * signOf (fractionOf f) (exponentOf f
   pub made-key : keyIn madeFloat ≡ n
   made-key =
       ap (floatKey (fractionOf f) (exponentOf f)) (bits-pattern f madeBits made-small ∙ made-is)
-      ∙ key-from (fractionOf f) (exponentOf f) n h (eqb-false _ _ (right-false (nanOf (fractionOf f) (exponentOf f) (patternFrom (fractionOf f) (exponentOf f) n)) _ c))
+      ∙ key-from (fractionOf f) (exponentOf f) n h (eqb-false _ _ (neither (nanOf (fractionOf f) (exponentOf f) (patternFrom (fractionOf f) (exponentOf f) n)) _ c .1))
