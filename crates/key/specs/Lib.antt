@@ -1,3 +1,4 @@
 pub mod Key
+pub mod Layouts
 pub mod Prefix
 pub mod Theorem

@@ -1,4 +1,5 @@
 // Keys: byte strings that order as their records do (docs/KEYS.md, docs/RULES.md: Keys), and the choice between two lent rows of bytes by a prefix.
+mod layouts;
 mod prefixes;
 
 pub use prefixes::max_by_prefix;
@@ -9,4 +10,11 @@ use value::Refusal;
 pub enum Written {
     Length(usize),
     Refused(Refusal),
+}
+
+// How a kind's bits are turned into a key and back: the weight of the sign bit, and of a float the bits of plus infinity.
+enum Layout {
+    Unsigned,
+    Signed(u64),
+    Float(u64, u64),
 }

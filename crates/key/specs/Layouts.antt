@@ -1,0 +1,51 @@
+-- What is done to the bits of a value for its key and back, by the weight of the sign bit: what the code's own steps are held to.
+use Prim.Native.Nat.{ℕ, _+_, _-_, _*_, _%_, _^_, _≤_, _<_}
+use mathlib.Core.Bool.{Bool, false, _||_, cond}
+use lib.Dec.{eqb, ltb, leb}
+use Rattle.float.specs.Format.{fractionOf, exponentOf, signOf, infOf}
+use Rattle.value.specs.Kinds.{Form, unsigned, signed, float}
+use Rattle.key.specs.declared.Layout.{Layout}
+use Rattle.key.specs.declared.Layout.the-variants as layout
+
+-- the weight of the sign bit, and of a float the bits of plus infinity
+abbrev pub layoutFor : Form → Layout
+layoutFor (unsigned k) = layout.Unsigned
+layoutFor (signed k) = layout.Signed (2 ^ (k - 1))
+layoutFor (float f) = layout.Float (signOf (fractionOf f) (exponentOf f)) (infOf (fractionOf f) (exponentOf f))
+
+-- n has the bits of the layout, and these fit a word
+abbrev pub Room : Layout → ℕ → Type 0
+Room layout.Unsigned n = Unit {0}
+Room (layout.Signed half) n = (half ≤ 2 ^ 63) × (n < 2 * half)
+Room (layout.Float half infinity) n = (half ≤ 2 ^ 63) × (n < 2 * half)
+
+abbrev pub floatNumber : ℕ → ℕ → ℕ
+floatNumber half b = cond (eqb b half) half (cond (leb half b) (2 * half - 1 - b) (half + b))
+
+abbrev pub floatPattern : ℕ → ℕ → ℕ
+floatPattern half n = cond (ltb n half) (2 * half - 1 - n) (n - half)
+
+-- the number of a key from the bits, and the bits from the number
+abbrev pub numberIn : Layout → ℕ → ℕ
+numberIn layout.Unsigned b = b
+numberIn (layout.Signed half) b = (b + half) % (2 * half)
+numberIn (layout.Float half infinity) b = floatNumber half b
+
+abbrev pub bitsIn : Layout → ℕ → ℕ
+bitsIn layout.Unsigned n = n
+bitsIn (layout.Signed half) n = (n + half) % (2 * half)
+bitsIn (layout.Float half infinity) n = floatPattern half n
+
+-- a NaN, and what no key stands for
+abbrev pub absIn : ℕ → ℕ → ℕ
+absIn half b = cond (leb half b) (b - half) b
+
+abbrev pub nanIn : Layout → ℕ → Bool
+nanIn layout.Unsigned b = false
+nanIn (layout.Signed half) b = false
+nanIn (layout.Float half infinity) b = ltb infinity (absIn half b)
+
+abbrev pub foreignIn : Layout → ℕ → Bool
+foreignIn layout.Unsigned b = false
+foreignIn (layout.Signed half) b = false
+foreignIn (layout.Float half infinity) b = ltb infinity (absIn half b) || eqb b half
