@@ -20,7 +20,7 @@ use Rattle.value.specs.Meaning.{Content, natural, integer, real, contentOf, two
 use Rattle.value.specs.Meaning as value
 use Rattle.key.specs.declared.Layout.{Layout}
 use Rattle.key.specs.Key.{shifted, keyIn, keyNumber, bytesOf, bitsFrom, notCanonical}
-use Rattle.key.specs.Layouts.{layoutFor, Room, floatNumber, floatPattern, numberIn, bitsIn, absIn, nanIn, foreignIn}
+use Rattle.key.specs.Steps.{layoutFor, Room, floatNumber, floatPattern, numberIn, bitsIn, absIn, nanIn, foreignIn}
 use Rattle.key.proofs.Ranges.{Ranged, Sized, kind-sized, formIn, content-form, twice-half, bits-range}
 
 -- ---- the steps of the code

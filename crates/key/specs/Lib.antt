@@ -1,4 +1,4 @@
 pub mod Key
-pub mod Layouts
+pub mod Steps
 pub mod Prefix
 pub mod Theorem

@@ -3,7 +3,7 @@ ghost use mathlib.Core.Path.{_≡_};
 ghost use Prim.Native.Nat.{_+_, _*_, _%_, _^_, _≤_, _<_};
 ghost use Rattle.value.specs.Kinds.{formOf};
 ghost use Rattle.key.specs.Key.{keyNumber, bytesOf};
-ghost use Rattle.key.specs.Layouts.{Room, layoutFor, absIn, floatNumber, floatPattern, bitsIn, nanIn, foreignIn};
+ghost use Rattle.key.specs.Steps.{Room, layoutFor, absIn, floatNumber, floatPattern, bitsIn, nanIn, foreignIn};
 use crate::Layout;
 use value::Kind;
 use value::Value;

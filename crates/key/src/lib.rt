@@ -1,10 +1,12 @@
 // Keys: byte strings that order as their records do (docs/KEYS.md, docs/RULES.md: Keys), and the choice between two lent rows of bytes by a prefix.
 mod layouts;
 mod prefixes;
+mod writing;
 
 pub use prefixes::max_by_prefix;
 pub use prefixes::min_by_prefix;
 use value::Refusal;
+pub use writing::write;
 
 // What writing a key answers: its length.
 pub enum Written {

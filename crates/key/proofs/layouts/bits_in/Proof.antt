@@ -1,7 +1,7 @@
 -- Each arm knows its layout.
 use mathlib.Core.Path.{sym, _∙_, ap, subst}
 use Rattle.key.specs.declared.Layout.{Layout}
-use Rattle.key.specs.Layouts.{Room, bitsIn}
+use Rattle.key.specs.Steps.{Room, bitsIn}
 use borrow.Author.Needs.{needs}
 use Rattle.key.proofs.layouts.bits_in.Statement.{statement}
 use Rattle.key.proofs.layouts.bits_in.Tie as tie

@@ -4,7 +4,7 @@ use mathlib.Core.List.{[], _∷_}
 use Rattle.value.specs.declared.Kind.{Kind}
 use Rattle.value.specs.Kinds.{formOf}
 use Rattle.key.specs.declared.Layout.the-variants as layout
-use Rattle.key.specs.Layouts.{layoutFor}
+use Rattle.key.specs.Steps.{layoutFor}
 use Rattle.key.proofs.KindArms.{kind-arm}
 use borrow.Author.Needs.{needs}
 use Rattle.key.proofs.layouts.layout_of.Statement.{statement}

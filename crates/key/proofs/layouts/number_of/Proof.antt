@@ -3,7 +3,7 @@ use mathlib.Core.Path.{_≡_, _∙_, sym, ap, subst}
 use Rattle.value.specs.Meaning.{contentOf}
 use Rattle.key.specs.declared.Layout.{Layout}
 use Rattle.key.specs.Key.{keyNumber}
-use Rattle.key.specs.Layouts.{Room, numberIn}
+use Rattle.key.specs.Steps.{Room, numberIn}
 use Rattle.key.proofs.KeyNumbers.{value-room, value-number}
 use Rattle.key.proofs.Ranges.{Ranged, value-ranged}
 use borrow.Author.Needs.{needs}

@@ -1,9 +1,16 @@
--- What is done to the bits of a value for its key and back, by the weight of the sign bit: what the code's own steps are held to.
+-- What the code's own steps are held to: the bits of a value made its key and back by the weight of the sign bit, bytes laid into a buffer, and the first NaN found.
 use Prim.Native.Nat.{ℕ, _+_, _-_, _*_, _%_, _^_, _≤_, _<_}
+use mathlib.Core.Path.{_≡_}
 use mathlib.Core.Bool.{Bool, false, _||_, cond}
+use mathlib.Core.List.{List, _++_}
 use lib.Dec.{eqb, ltb, leb}
+use lib.ListN.{length, take, drop}
 use Rattle.float.specs.Format.{fractionOf, exponentOf, signOf, infOf}
 use Rattle.value.specs.Kinds.{Form, unsigned, signed, float}
+use Rattle.value.specs.Outcome.{gives, refuseIf}
+use Rattle.record.specs.declared.Record.{Record}
+use Rattle.record.specs.Record.{fieldsOf}
+use Rattle.key.specs.Key.{nanThen}
 use Rattle.key.specs.declared.Layout.{Layout}
 use Rattle.key.specs.declared.Layout.the-variants as layout
 
@@ -49,3 +56,11 @@ abbrev pub foreignIn : Layout → ℕ → Bool
 foreignIn layout.Unsigned b = false
 foreignIn (layout.Signed half) b = false
 foreignIn (layout.Float half infinity) b = ltb infinity (absIn half b) || eqb b half
+
+-- bytes k laid into l from a place on
+unfoldable pub put : ℕ → List ℕ → List ℕ → List ℕ
+put at k l = take at l ++ (k ++ drop (at + length k) l)
+
+-- i is the index of the first NaN, or the count
+abbrev pub FirstNan : Record → ℕ → Type 0
+FirstNan r i = (n : ℕ) → nanThen 0 (fieldsOf r) (gives n) ≡ refuseIf (ltb i (r .count)) 1 i (gives n)
