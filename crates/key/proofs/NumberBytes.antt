@@ -84,21 +84,28 @@ unfolding numberFrom
 number-snoc a [] x = refl
 number-snoc a (y ∷ l) x = number-snoc (a * 256 + y) l x
 
-module _ (key : List ℕ) (from : ℕ) where
+module _ (key : List ℕ) (from width : ℕ) where
   abbrev pub Gathered : ℕ → ℕ → Type 0
-  Gathered i m = (m ≡ numberFrom 0 (take i (drop from key))) × (m < 256 ^ i)
+  Gathered m i = (i ≤ width) × (m ≡ numberFrom 0 (take i (drop from key))) × (m < 256 ^ i)
 
   pub gather-none : Gathered 0 0
   unfolding numberFrom
-  gather-none = (refl, omega arith)
+  gather-none = (omega arith, refl, omega arith)
 
-  pub gather-step : (i m x : ℕ) → from + i < length key → x ≡ getD key (from + i) 0 → x < 256 → Gathered i m → Gathered (i + 1) (m * 256 + x)
-  gather-step i m x h q b g = (
-    rw (add-one i, take-suc (drop from key) i 0 (rw length-drop (omega arith)), getD-drop from key i 0, ← q, number-snoc 0 (take i (drop from key)) x, ← g .0),
-    rw (add-one i, pow-suc 256 i) (omega (arith, g .1)),
-  )
+  module _ (m i x : ℕ) (g : Gathered m i) (h : i < width) (b : x < 256) where
+    next-below : m * 256 + x < 256 ^ suc i
+    next-below = rw (pow-suc 256 i) (omega (arith, g .2))
 
-pub word-room : (i m x : ℕ) → i < 8 → m < 256 ^ i → x < 256 → m * 256 + x < 2 ^ 64
-word-room i m x h k b =
-    let next : m * 256 + x < 256 ^ suc i = rw (pow-suc 256 i) (omega arith) in
-    lt-of-lt-of-le next (pow-le-pow-right (zero-lt-suc 255) h)
+    -- so far it fits a word
+    pub gather-room : width ≤ 8 → m * 256 + x < 2 ^ 64
+    gather-room l = lt-of-lt-of-le next-below (pow-le-pow-right (zero-lt-suc 255) (let k : suc i ≤ 8 = omega arith in k))
+
+    pub gather-step : from + width ≤ length key → x ≡ getD key (from + i) 0 → Gathered (m * 256 + x) (i + 1)
+    gather-step l q = rw (add-one i) (
+      omega arith,
+      rw (take-suc (drop from key) i 0 (rw length-drop (omega arith)), getD-drop from key i 0, ← q, number-snoc 0 (take i (drop from key)) x, ← g .1),
+      next-below,
+    )
+
+  pub gather-end : (m i : ℕ) → width ≤ i → Gathered m i → (m ≡ numberFrom 0 (take width (drop from key))) × (m < 256 ^ width)
+  gather-end m i h g = let q : i ≡ width = omega arith in rw (← q) (g .1, g .2)

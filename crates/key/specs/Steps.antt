@@ -4,12 +4,13 @@ use mathlib.Core.Path.{_≡_}
 use mathlib.Core.Bool.{Bool, false, _||_, cond}
 use mathlib.Core.List.{List, _++_}
 use lib.Dec.{eqb, ltb, leb}
-use lib.ListN.{length, take, drop}
+use lib.ListN.{length, take, drop, replicate}
 use Rattle.float.specs.Format.{fractionOf, exponentOf, signOf, infOf}
 use Rattle.value.specs.Kinds.{Form, unsigned, signed, float}
+use Rattle.value.specs.declared.Value.the-variants.{U8}
 use Rattle.value.specs.Outcome.{gives, refuseIf}
 use Rattle.record.specs.declared.Record.{Record}
-use Rattle.record.specs.Record.{fieldsOf}
+use Rattle.record.specs.Record.{fieldFor, fieldsOf}
 use Rattle.key.specs.Key.{nanThen}
 use Rattle.key.specs.declared.Layout.{Layout}
 use Rattle.key.specs.declared.Layout.the-variants as layout
@@ -64,3 +65,7 @@ put at k l = take at l ++ (k ++ drop (at + length k) l)
 -- i is the index of the first NaN, or the count
 abbrev pub FirstNan : Record → ℕ → Type 0
 FirstNan r i = (n : ℕ) → nanThen 0 (fieldsOf r) (gives n) ≡ refuseIf (ltb i (r .count)) 1 i (gives n)
+
+-- u8 0 in every place
+abbrev pub blankOf : ℕ → Record
+blankOf n = record { fields = replicate 12 (fieldFor (U8 0)); count = n }

@@ -1,10 +1,13 @@
 // Keys: byte strings that order as their records do (docs/KEYS.md, docs/RULES.md: Keys), and the choice between two lent rows of bytes by a prefix.
+mod counts;
 mod layouts;
 mod prefixes;
+mod reading;
 mod writing;
 
 pub use prefixes::max_by_prefix;
 pub use prefixes::min_by_prefix;
+pub use reading::read;
 use value::Refusal;
 pub use writing::write;
 

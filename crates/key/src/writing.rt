@@ -5,10 +5,11 @@ ghost use Prim.Native.Nat.{_+_, _≤_};
 ghost use lib.ListN.{length, drop};
 ghost use Rattle.float.specs.Number.{isNone};
 ghost use Rattle.value.specs.Meaning.{exactOf};
-ghost use Rattle.record.specs.Record.{fieldsOf, badCount};
+ghost use Rattle.record.specs.Record.{fieldsOf};
 ghost use Rattle.key.specs.Key.{bigEndian, keyOf, writtenOutcome, writeOf, writeExit};
 ghost use Rattle.key.specs.Steps.{put, FirstNan};
 use crate::Written;
+use crate::counts::bad_count;
 use crate::layouts::bytes_of;
 use crate::layouts::layout_of;
 use crate::layouts::nan_in;
@@ -16,13 +17,6 @@ use crate::layouts::number_of;
 use record::Record;
 use value::Refusal;
 use value::Value;
-
-// Rule 11.
-pub fn bad_count(n: usize) -> bool
-    ensures { λ r. ⌜ r ≡ badCount n ⌝ }
-{
-    (n == 0) | (12 < n)
-}
 
 fn key_length(r: Record) -> usize
     requires { ⌜ r .count ≤ 12 ⌝ }

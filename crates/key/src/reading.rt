@@ -1,0 +1,116 @@
+// Reading a record back from its key. RULES.md: Keys.
+ghost use mathlib.Core.Path.{_≡_};
+ghost use Prim.Native.Nat.{_+_, _^_, _≤_, _<_};
+ghost use lib.ListN.{length, take, drop};
+ghost use Rattle.value.specs.Outcome.{refuses};
+ghost use Rattle.record.specs.Record.{kindsIn, recordedOf};
+ghost use Rattle.key.specs.Key.{bytesIn, numberFrom, readOf};
+ghost use Rattle.key.specs.Steps.{blankOf};
+use crate::counts::bad_count;
+use crate::layouts::bits_in;
+use crate::layouts::bytes_of;
+use crate::layouts::foreign_in;
+use crate::layouts::layout_of;
+use record::Field;
+use record::Made;
+use record::Record;
+use record::Recorded;
+use record::Shape;
+use value::Refusal;
+use value::Value;
+
+// How many bytes the keys of a shape have.
+fn shape_length(s: Shape) -> usize
+    requires { ⌜ s .count ≤ 12 ⌝ }
+    ensures { λ n. ⌜ n ≡ bytesIn (kindsIn s) ⌝ }
+{
+    let count = s.count;
+    let mut n = 0;
+    let mut at = 0;
+    while at < count {
+        let p = s.places[at];
+        let k = p.kind;
+        n += bytes_of(k);
+        at += 1;
+    }
+    n
+}
+
+fn wide(x: u8) -> u64
+    ensures { λ r. ⌜ (r ≡ x) × (r < 256) ⌝ }
+{
+    x as u64
+}
+
+// The number whose bytes, high byte first, are the `width` bytes from a place on.
+fn read_number(key: &[u8], from: usize, width: usize) -> u64
+    requires { ⌜ (width ≤ 8) × (from + width ≤ length (now key)) ⌝ }
+    ensures { λ r. ⌜ (r ≡ numberFrom 0 (take width (drop from (now (key .entry))))) × (r < 256 ^ width) ⌝ }
+{
+    let mut n = 0;
+    let mut i = 0;
+    while i < width {
+        n = n * 256 + wide(key[from + i]);
+        i += 1;
+    }
+    n
+}
+
+// u8 0 in every place.
+fn blank_record(count: usize) -> Record
+    ensures { λ r. ⌜ r ≡ blankOf count ⌝ }
+{
+    let f = Field {
+        value: Value::U8(0),
+    };
+    Record {
+        fields: [f; 12],
+        count: count,
+    }
+}
+
+fn refused(number: u8, place: usize) -> Recorded
+    ensures { λ r. ⌜ r ≡ recordedOf (refuses number place) ⌝ }
+{
+    let none = blank_record(0);
+    Recorded {
+        outcome: Made::Refused(Refusal {
+            number: number,
+            place: place,
+        }),
+        record: none,
+    }
+}
+
+pub fn read(shape: Shape, key: &[u8]) -> Recorded
+    ensures { λ r. ⌜ r ≡ recordedOf (readOf shape (now (key .entry))) ⌝ }
+{
+    let count = shape.count;
+    if bad_count(count) {
+        return refused(11, 0);
+    }
+    if key.len() != shape_length(shape) {
+        return refused(9, 0);
+    }
+    let mut made = blank_record(count);
+    let mut from = 0;
+    let mut at = 0;
+    while at < count {
+        let p = shape.places[at];
+        let k = p.kind;
+        let width = bytes_of(k);
+        let layout = layout_of(k);
+        let bits = bits_in(layout, read_number(key, from, width));
+        if foreign_in(layout, bits) {
+            return refused(12, at);
+        }
+        let v = value::value_of(k, bits);
+        made.fields[at] = Field { value: v };
+        from += width;
+        at += 1;
+    }
+    Recorded {
+        outcome: Made::Done,
+        record: made,
+    }
+}
