@@ -1,15 +1,13 @@
 -- The number of a key from a value's bits, and the bits from the number: each form once, over the weight of its sign bit.
 use mathlib.Core.Path.{_≡_, refl, sym, _∙_, ap, subst}
 use mathlib.Core.Bool.{Bool, true, false, cond}
-use Prim.Native.Nat.{ℕ, suc, _+_, _-_, _*_, _%_, _^_, _≤_, _<_}
+use Prim.Native.Nat.{ℕ, _+_, _-_, _*_, _%_, _^_, _≤_, _<_}
 use native.Mathlib.Nat.{mod-eq-of-lt, mod-eq-sub-mod, pow-suc}
 use native.Mathlib.Omega.{arith}
 use borrow.Author.Tests.{eq-eqb, ne-eqb, lt-ltb, le-ltb, le-leb, lt-leb}
-use lib.Dec.{lit≤}
 use lib.IntN.{ℤ, pos, negsuc}
 use lib.Signed.{mag}
 use lib.Pow.{pow-mono}
-use lib.Ieee.{Format, binary32, binary64}
 use Rattle.float.specs.Format.{fractionOf, exponentOf, negativeOf, absOf, infiniteOf, nanOf, magOf}
 use Rattle.float.specs.Number.{Exact, notNumber, infinite, finite, isNone, times}
 use Rattle.float.specs.Order.{patternOf}

@@ -11,8 +11,7 @@ use lib.Dec.{ltb}
 use lib.ListN.{length, take, drop, getD, length-take, drop-of-length-le}
 use lib.Seq.{drop-cons, getD-take}
 use Rattle.float.specs.declared.Order.{Order}
-use Rattle.float.specs.declared.Order.the-variants.{Less, Equal, Greater}
-use Rattle.float.specs.Order.{orderN, isLess}
+use Rattle.float.specs.Order.{isLess}
 use Rattle.float.proofs.Naturals.{lt-or-ge, order-less, order-greater, order-equal}
 use Rattle.record.specs.Record.{orElse}
 use Rattle.key.specs.Prefix.{bytesOrder}

@@ -39,11 +39,11 @@ module _ (at : ℕ) (k l : List ℕ) (h : at + length k ≤ length l) where
       let q : List ℕ = drop (at + length k) l in
       let head : take (at + length k) (put at k l) ≡ take at l ++ k = ap (take (at + length k)) put-split ∙ take-at (take at l ++ k) q (at + length k) head-length in
       let tail : drop (at + length k + length m) (put at k l) ≡ drop (at + length (k ++ m)) l =
-          ap (drop (at + length k + length m)) put-split
-          ∙ sym (drop-drop (length m) (at + length k) ((take at l ++ k) ++ q))
-          ∙ ap (drop (length m)) (drop-at (take at l ++ k) q (at + length k) head-length)
-          ∙ drop-drop (length m) (at + length k) l
-          ∙ ap (λ (j : ℕ). drop j l) (add-assoc at (length k) (length m) ∙ ap (λ (j : ℕ). at + j) (sym (length-append k m))) in
+      ap (drop (at + length k + length m)) put-split
+      ∙ sym (drop-drop (length m) (at + length k) ((take at l ++ k) ++ q))
+      ∙ ap (drop (length m)) (drop-at (take at l ++ k) q (at + length k) head-length)
+      ∙ drop-drop (length m) (at + length k) l
+      ∙ ap (λ (j : ℕ). drop j l) (add-assoc at (length k) (length m) ∙ ap (λ (j : ℕ). at + j) (sym (length-append k m))) in
       rw (head, tail) (simp append-assoc)
 
 -- one byte behind them, laid down before
@@ -51,8 +51,8 @@ put-last : (at : ℕ) (k l : List ℕ) (x : ℕ) → at + length k < length l �
 unfolding put
 put-last at k l x h =
     let tail : drop (at + length k) (set l (at + length k) x) ≡ x ∷ drop (suc (at + length k)) l =
-        ap (drop (at + length k)) (set-split l (at + length k) x h)
-        ∙ drop-at (take (at + length k) l) (x ∷ drop (suc (at + length k)) l) (at + length k) (length-take-le _ _ (omega arith)) in
+    ap (drop (at + length k)) (set-split l (at + length k) x h)
+    ∙ drop-at (take (at + length k) l) (x ∷ drop (suc (at + length k)) l) (at + length k) (length-take-le _ _ (omega arith)) in
     let more : at + length (k ++ (x ∷ [])) ≡ suc (at + length k) = simp length-append (omega arith) in
     rw (take-set-le at l (at + length k) x (omega arith), tail, more) (simp append-assoc)
 

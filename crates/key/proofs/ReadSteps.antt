@@ -1,13 +1,12 @@
 -- The passes over a shape's kinds: the bytes of a key counted, and the fields read one after the other into a blank record; and what reading then answers.
 use mathlib.Core.Path.{_≡_, refl, sym, _∙_, ap}
-use mathlib.Core.Bool.{Bool, true, false, not}
-use mathlib.Core.List.{List, [], _∷_, _++_, map, append-assoc}
+use mathlib.Core.Bool.{Bool, true, false}
+use mathlib.Core.List.{List, [], _∷_, _++_, append-assoc}
 use Prim.Native.Nat.{ℕ, zero, suc, _+_, _-_, _*_, _≤_, _<_}
 use native.Mathlib.Nat.{zero-add, add-zero}
 use native.Mathlib.Numerals.{add-one}
 use native.Mathlib.Omega.{arith}
 use borrow.Author.Tests.{eq-eqb, ne-eqb}
-use lib.Dec.{eqb}
 use lib.ListN.{length, take, drop, getD, set, replicate, length-map, length-set, take-append-drop, drop-of-length-le, List·getD-map}
 use lib.Seq.{take-suc, take-all, drop-cons, drop-drop, drop-set-lt, take-suc-set, getD-take, length-take-le}
 use Rattle.value.specs.declared.Kind.{Kind}
@@ -21,11 +20,10 @@ use Rattle.record.specs.declared.Place.{Place}
 use Rattle.record.specs.declared.Record.{Record}
 use Rattle.record.specs.declared.Recorded.{Recorded}
 use Rattle.record.specs.declared.Shape.{Shape}
-use Rattle.record.specs.declared.Made.the-variants as made
 use Rattle.record.specs.Record.{fieldFor, badCount, kindsIn, recordOf, recordedOf}
 use Rattle.record.proofs.Shape as shape-type
 use Rattle.key.specs.declared.Layout.{Layout}
-use Rattle.key.specs.Key.{bytesOf, numberFrom, bitsFrom, notCanonical, bytesIn, fieldThen, readFields, readOf}
+use Rattle.key.specs.Key.{bytesOf, numberFrom, bitsFrom, notCanonical, bytesIn, readFields, readOf}
 use Rattle.key.specs.Steps.{layoutFor, bitsIn, foreignIn, blankOf}
 use Rattle.key.proofs.Ranges.{kind-sized}
 use Rattle.key.proofs.KeyNumbers.{form-bits, form-foreign}
@@ -130,7 +128,7 @@ module _ (s : Shape) (few : s .count ≤ 12) (twelve : length (s .places) ≡ 12
   pub sum-step : (n at : ℕ) (d : Place) → at < s .count → {w : ℕ} → (w ≡ bytesOf (getD (s .places) at d .kind)) × (w ≤ 8) → Summed s n at → Summed s (n + w) (at + 1)
   sum-step n at d h q c =
       let next : bytesIn (take (suc at) ks) ≡ bytesIn (take at ks) + bytesOf (getD (s .places) at d .kind) =
-          ap bytesIn (kinds-passed at d h) ∙ bytes-snoc (take at ks) (getD (s .places) at d .kind) in
+      ap bytesIn (kinds-passed at d h) ∙ bytes-snoc (take at ks) (getD (s .places) at d .kind) in
       rw (add-one at) (omega arith, omega (arith, next, q .0, c .1), omega (arith, q .1, c .2))
 
   pub sum-end : (n at : ℕ) → s .count ≤ at → Summed s n at → n ≡ bytesIn ks

@@ -1,13 +1,13 @@
 -- The passes over a record's fields: the bytes of their keys counted, the first NaN looked for, their keys laid down; and what writing then answers.
 use mathlib.Core.Path.{_≡_, refl, sym, _∙_, ap}
-use mathlib.Core.Bool.{Bool, true, false, _||_, true≢false}
+use mathlib.Core.Bool.{Bool, true, false}
 use mathlib.Core.List.{List, [], _∷_, _++_, append-assoc, append-nil}
 use Prim.Native.Nat.{ℕ, suc, _+_, _*_, _≤_, _<_}
 use native.Mathlib.Nat.{zero-add}
 use native.Mathlib.Numerals.{add-one}
 use native.Mathlib.Omega.{arith}
-use borrow.Author.Tests.{lt-ltb, le-ltb, ltb-false}
-use lib.Dec.{eqb, ltb}
+use borrow.Author.Tests.{lt-ltb, le-ltb}
+use lib.Dec.{ltb}
 use lib.ListN.{length, take, drop, getD, length-append, length-map, take-append-drop, drop-of-length-le}
 use lib.Seq.{take-suc, take-all, drop-cons, getD-take, length-take-le}
 use Rattle.float.specs.Number.{isNone}
@@ -132,6 +132,15 @@ module _ (r : Record) (few : r .count ≤ 12) (twelve : length (r .fields) ≡ 1
     unfolding keyOf
     laid-none = (omega arith, refl, sym (put-nil 0 old), refl, omega arith)
 
+    -- the next field's key behind the keys up to `at`
+    lay-next : (at : ℕ) (d : Field) → at < r .count
+        → put (length (keyOf (take at fs))) (fieldKey (getD (r .fields) at d .value)) (put 0 (keyOf (take at fs)) old) ≡ put 0 (keyOf (take (at + 1) fs)) old
+    lay-next at d h =
+        let k : List ℕ = keyOf (take at fs) in
+        ap (λ (i : ℕ). put i (fieldKey (getD (r .fields) at d .value)) (put 0 k old)) (sym (zero-add (length k)))
+        ∙ put-put 0 k old (omega (arith, key-within at)) (fieldKey (getD (r .fields) at d .value))
+        ∙ ap (λ (l : List ℕ). put 0 l old) (sym (key-next at d h))
+
     module _ (now : List ℕ) (to at : ℕ) (laid : Laid r old now to at) where
       module _ (d : Field) (h : at < r .count) {k : Kind} (k-is : k ≡ kindOf (getD (r .fields) at d .value)) {w : ℕ} (w-is : (w ≡ bytesOf k) × (w ≤ 8)) where
         own-width : w ≡ bytesOf (kindOf (getD (r .fields) at d .value))
@@ -141,16 +150,11 @@ module _ (r : Record) (few : r .count ≤ 12) (twelve : length (r .fields) ≡ 1
         laid-room = omega (arith, laid .3, laid .1, own-width, bytes-next at d h, key-within (at + 1))
 
         pub laid-step : {n : ℕ} → n ≡ keyNumber (getD (r .fields) at d .value) → {new : List ℕ} → new ≡ put to (bigEndian w n) now → Laid r old new (to + w) (at + 1)
-        laid-step e z = (
+        laid-step {n} e z = (
           omega arith,
           omega (arith, laid .1, own-width, bytes-next at d h),
-          z
-              ∙ rw (e, own-width, laid .1, laid .2) (
-                ap (λ (i : ℕ). put i (fieldKey (getD (r .fields) at d .value)) (put 0 (keyOf (take at fs)) old)) (sym (zero-add (length (keyOf (take at fs)))))
-                ∙ put-put 0 (keyOf (take at fs)) old (omega (arith, key-within at)) (fieldKey (getD (r .fields) at d .value))
-                ∙ ap (λ (l : List ℕ). put 0 l old) (sym (key-next at d h))
-              ),
-          ap length z ∙ length-put to (bigEndian w _) now (rw (length-number w _) laid-room) ∙ laid .3,
+          z ∙ rw (e, own-width, laid .1, laid .2) (lay-next at d h),
+          ap length z ∙ length-put to (bigEndian w n) now (rw (length-number w n) laid-room) ∙ laid .3,
           omega (arith, laid .4, w-is .1),
         )
 
@@ -158,13 +162,6 @@ module _ (r : Record) (few : r .count ≤ 12) (twelve : length (r .fields) ≡ 1
       laid-end h = laid .2 ∙ ap (λ (l : List Field). put 0 (keyOf l) old) (all-fields at h)
 
 -- ---- what writing answers, and what the buffer then holds
-
-pub good-count : (n : ℕ) {t : Bool} → t ≡ badCount n → t ≡ false → n ≤ 12
-good-count n q f = ltb-false 12 n (second (eqb n 0) (ltb 12 n) (sym q ∙ f))
-  where
-    second : (s t : Bool) → (s || t) ≡ false → t ≡ false
-    second true t h = absurd (true≢false h)
-    second false t h = h
 
 module _ (r : Record) (old : List ℕ) where
   abbrev Answers : Written → List ℕ → Type 0

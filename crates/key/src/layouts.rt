@@ -59,7 +59,11 @@ fn float_pattern(half: u64, n: u64) -> u64
     requires { ⌜ (half ≤ 2 ^ 63) × (n < 2 * half) ⌝ }
     ensures { λ r. ⌜ r ≡ floatPattern half n ⌝ }
 {
-    if n < half { half - 1 - n + half } else { n - half }
+    if n < half {
+        half - 1 - n + half
+    } else {
+        n - half
+    }
 }
 
 // The number whose bytes are the key of a value.

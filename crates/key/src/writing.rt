@@ -1,8 +1,7 @@
 // Writing the key of a record into a lent buffer: two looking passes, for the length and for a NaN, come before the pass that writes. RULES.md: Keys.
 ghost use mathlib.Core.Path.{_≡_};
-ghost use mathlib.Core.List.{_++_};
 ghost use Prim.Native.Nat.{_+_, _≤_};
-ghost use lib.ListN.{length, drop};
+ghost use lib.ListN.{length};
 ghost use Rattle.float.specs.Number.{isNone};
 ghost use Rattle.value.specs.Meaning.{exactOf};
 ghost use Rattle.record.specs.Record.{fieldsOf};

@@ -1,7 +1,6 @@
 -- The layout of the value's own kind makes the number of its key from its bits; what a program holds has no more bits than its kind.
-use mathlib.Core.Path.{_≡_, _∙_, sym, ap, subst}
+use mathlib.Core.Path.{_≡_, _∙_}
 use Rattle.value.specs.Meaning.{contentOf}
-use Rattle.key.specs.declared.Layout.{Layout}
 use Rattle.key.specs.Key.{keyNumber}
 use Rattle.key.specs.Steps.{Room, numberIn}
 use Rattle.key.proofs.KeyNumbers.{value-room, value-number}

@@ -4,7 +4,7 @@ use Prim.Native.Nat.{_-_}
 use lib.ListN.{length, getD}
 use Rattle.value.specs.declared.Kind.the-variants.{U8}
 use Rattle.key.proofs.KeyNumbers.{number-room}
-use Rattle.key.proofs.WriteSteps.{good-count}
+use Rattle.key.proofs.Ranges.{good-count}
 use Rattle.key.proofs.ReadSteps.{twelve-places, Filled, read-bad-count, read-bad-length, read-start, read-room, read-stop, read-step, read-end}
 use borrow.Author.Needs.{needs}
 use Rattle.key.proofs.reading.read.Statement.{statement}
@@ -47,7 +47,8 @@ read-number-requires : tie.Need-read-number-requires Inv-loop μ-loop
 read-number-requires c κs =
     let b = c .before .before .before .before in
     let start = b .before .before .before .before .before .before .before in
-    read-room (start .args .t1) (b .loop .inv .5) (twelve start) (start .args .key .now) (b .loop .made) (b .loop .from) (b .loop .at) (b .loop .inv) (record { kind = U8 }) (c .before .before .before .loop-test .taken) (c .before .bytes-of .ensures)
+    read-room (start .args .t1) (b .loop .inv .5) (twelve start) (start .args .key .now) (b .loop .made) (b .loop .from) (b .loop .at) (b .loop .inv)
+    (record { kind = U8 }) (c .before .before .before .loop-test .taken) (c .before .bytes-of .ensures)
 
 bits-in-requires : tie.Need-bits-in-requires Inv-loop μ-loop
 bits-in-requires c κs =
@@ -62,7 +63,8 @@ returns-3 c =
     let bytes = bits .before .before .before in
     let b = bytes .before .before .before in
     let start = b .before .before .before .before .before .before .before in
-    c .refused3 .ensures ∙ read-stop (start .args .t1) (b .loop .inv .5) (twelve start) (start .args .key .now) (b .loop .made) (b .loop .from) (b .loop .at) (b .loop .inv) (record { kind = U8 }) (bytes .before .before .loop-test .taken) (bytes .bytes-of .ensures) (bits .before .read-number .ensures .0) (bits .before .before .layout-of .ensures) (bits .bits-in .ensures) (tested .foreign-in .ensures) (c .before .if3 .taken)
+    c .refused3 .ensures ∙ read-stop (start .args .t1) (b .loop .inv .5) (twelve start) (start .args .key .now) (b .loop .made) (b .loop .from) (b .loop .at) (b .loop .inv)
+    (record { kind = U8 }) (bytes .before .before .loop-test .taken) (bytes .bytes-of .ensures) (bits .before .read-number .ensures .0) (bits .before .before .layout-of .ensures) (bits .bits-in .ensures) (tested .foreign-in .ensures) (c .before .if3 .taken)
 
 loop-again : tie.Need-loop-again Inv-loop μ-loop
 loop-again c =
@@ -71,7 +73,8 @@ loop-again c =
     let bytes = bits .before .before .before in
     let b = bytes .before .before .before in
     let start = b .before .before .before .before .before .before .before in
-    read-step (start .args .t1) (b .loop .inv .5) (twelve start) (start .args .key .now) (b .loop .made) (b .loop .from) (b .loop .at) (b .loop .inv) (record { kind = U8 }) (bytes .before .before .loop-test .taken) (bytes .bytes-of .ensures) (bits .before .read-number .ensures .0) (bits .before .before .layout-of .ensures) (bits .bits-in .ensures) (tested .foreign-in .ensures) (c .before .if3 .left) (c .value-of .ensures)
+    read-step (start .args .t1) (b .loop .inv .5) (twelve start) (start .args .key .now) (b .loop .made) (b .loop .from) (b .loop .at) (b .loop .inv)
+    (record { kind = U8 }) (bytes .before .before .loop-test .taken) (bytes .bytes-of .ensures) (bits .before .read-number .ensures .0) (bits .before .before .layout-of .ensures) (bits .bits-in .ensures) (tested .foreign-in .ensures) (c .before .if3 .left) (c .value-of .ensures)
 
 returns-4 : tie.Need-returns-4 Inv-loop μ-loop
 returns-4 c =

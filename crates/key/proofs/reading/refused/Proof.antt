@@ -1,8 +1,4 @@
 -- The record beside a refusal is blank.
-use mathlib.Core.Path.{ap}
-use Prim.Native.Nat.{ℕ}
-use Rattle.record.specs.declared.Record.{Record}
-use Rattle.record.specs.declared.Recorded.{Recorded}
 use borrow.Author.Needs.{needs}
 use Rattle.key.proofs.reading.refused.Statement.{statement}
 use Rattle.key.proofs.reading.refused.Tie as tie

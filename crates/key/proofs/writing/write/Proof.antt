@@ -1,6 +1,7 @@
 -- Each way out is one law of what writing answers and leaves.
 use native.Mathlib.Omega.{arith}
-use Rattle.key.proofs.WriteSteps.{good-count, write-bad-count, write-short, write-nan, write-done}
+use Rattle.key.proofs.Ranges.{good-count}
+use Rattle.key.proofs.WriteSteps.{write-bad-count, write-short, write-nan, write-done}
 use borrow.Author.Needs.{needs}
 use Rattle.key.proofs.writing.write.Statement.{statement}
 use Rattle.key.proofs.writing.write.Tie as tie
@@ -19,7 +20,8 @@ returns-2 c =
     let counted = c .before .before in
     let bad = counted .before .before in
     let start = bad .before .before in
-    write-short (start .args .r) (start .args .buffer .now) (bad .bad-count .ensures) (counted .before .if1 .left) (counted .key-length .ensures) (c .before .if2 .taken) (c .refused2 .ensures)
+    write-short (start .args .r) (start .args .buffer .now) (bad .bad-count .ensures) (counted .before .if1 .left)
+    (counted .key-length .ensures) (c .before .if2 .taken) (c .refused2 .ensures)
 
 first-nan-requires : tie.Need-first-nan-requires
 first-nan-requires c κs = good-count _ (c .before .before .before .bad-count .ensures) (c .before .before .if1 .left)
@@ -30,7 +32,8 @@ returns-3 c =
     let counted = looked .before .before in
     let bad = counted .before .before in
     let start = bad .before .before in
-    write-nan (start .args .r) (start .args .buffer .now) (bad .bad-count .ensures) (counted .before .if1 .left) (counted .key-length .ensures) (looked .before .if2 .left) (looked .first-nan .result) (looked .first-nan .ensures) (c .before .if3 .taken) (c .refused3 .ensures)
+    write-nan (start .args .r) (start .args .buffer .now) (bad .bad-count .ensures) (counted .before .if1 .left)
+    (counted .key-length .ensures) (looked .before .if2 .left) (looked .first-nan .result) (looked .first-nan .ensures) (c .before .if3 .taken) (c .refused3 .ensures)
 
 write-fields-requires : tie.Need-write-fields-requires
 write-fields-requires c κs =
@@ -44,7 +47,8 @@ returns-4 c =
     let counted = looked .before .before in
     let bad = counted .before .before in
     let start = bad .before .before in
-    write-done (start .args .r) (start .args .buffer .now) (bad .bad-count .ensures) (counted .before .if1 .left) (counted .key-length .ensures) (looked .before .if2 .left) (looked .first-nan .result) (looked .first-nan .ensures) (filled .before .before .if3 .left) (filled .write-fields .ensures)
+    write-done (start .args .r) (start .args .buffer .now) (bad .bad-count .ensures) (counted .before .if1 .left)
+    (counted .key-length .ensures) (looked .before .if2 .left) (looked .first-nan .result) (looked .first-nan .ensures) (filled .before .before .if3 .left) (filled .write-fields .ensures)
 
 pub write-spec : {M : Type 1} → statement M
 write-spec =
