@@ -8,7 +8,7 @@ use crate::Layout;
 use value::Kind;
 use value::Value;
 
-pub fn bytes_of(k: Kind) -> usize
+pub(crate) fn bytes_of(k: Kind) -> usize
     ensures { λ r. ⌜ (r ≡ bytesOf k) × (r ≤ 8) ⌝ }
 {
     match k {
@@ -19,7 +19,7 @@ pub fn bytes_of(k: Kind) -> usize
     }
 }
 
-pub fn layout_of(k: Kind) -> Layout
+pub(crate) fn layout_of(k: Kind) -> Layout
     ensures { λ r. ⌜ r ≡ layoutFor (formOf k) ⌝ }
 {
     match k {
@@ -67,7 +67,7 @@ fn float_pattern(half: u64, n: u64) -> u64
 }
 
 // The number whose bytes are the key of a value.
-pub fn number_of(v: Value) -> u64
+pub(crate) fn number_of(v: Value) -> u64
     ensures { λ r. ⌜ r ≡ keyNumber v ⌝ }
 {
     let bits = value::bits_of(v);
@@ -79,7 +79,7 @@ pub fn number_of(v: Value) -> u64
 }
 
 // The bits of the value whose key is n.
-pub fn bits_in(layout: Layout, n: u64) -> u64
+pub(crate) fn bits_in(layout: Layout, n: u64) -> u64
     requires { ⌜ Room layout n ⌝ }
     ensures { λ r. ⌜ r ≡ bitsIn layout n ⌝ }
 {
@@ -96,7 +96,7 @@ fn abs_in(half: u64, bits: u64) -> u64
     if half <= bits { bits - half } else { bits }
 }
 
-pub fn nan_in(layout: Layout, bits: u64) -> bool
+pub(crate) fn nan_in(layout: Layout, bits: u64) -> bool
     ensures { λ r. ⌜ r ≡ nanIn layout bits ⌝ }
 {
     match layout {
@@ -107,7 +107,7 @@ pub fn nan_in(layout: Layout, bits: u64) -> bool
 }
 
 // Bits that no key stands for: those of a NaN and of minus zero.
-pub fn foreign_in(layout: Layout, bits: u64) -> bool
+pub(crate) fn foreign_in(layout: Layout, bits: u64) -> bool
     ensures { λ r. ⌜ r ≡ foreignIn layout bits ⌝ }
 {
     match layout {

@@ -1,5 +1,4 @@
 // Keys: byte strings that order as their records do (docs/KEYS.md, docs/RULES.md: Keys), and the choice between two lent rows of bytes by a prefix.
-mod counts;
 mod layouts;
 mod prefixes;
 mod reading;

@@ -6,7 +6,6 @@ ghost use Rattle.value.specs.Outcome.{refuses};
 ghost use Rattle.record.specs.Record.{kindsIn, recordedOf};
 ghost use Rattle.key.specs.Key.{bytesIn, numberFrom, readOf};
 ghost use Rattle.key.specs.Steps.{blankOf};
-use crate::counts::bad_count;
 use crate::layouts::bits_in;
 use crate::layouts::bytes_of;
 use crate::layouts::foreign_in;
@@ -16,6 +15,7 @@ use record::Made;
 use record::Record;
 use record::Recorded;
 use record::Shape;
+use record::bad_count;
 use value::Refusal;
 use value::Value;
 

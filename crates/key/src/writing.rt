@@ -8,12 +8,12 @@ ghost use Rattle.record.specs.Record.{fieldsOf};
 ghost use Rattle.key.specs.Key.{bigEndian, keyOf, writtenOutcome, writeOf, writeExit};
 ghost use Rattle.key.specs.Steps.{put, FirstNan};
 use crate::Written;
-use crate::counts::bad_count;
 use crate::layouts::bytes_of;
 use crate::layouts::layout_of;
 use crate::layouts::nan_in;
 use crate::layouts::number_of;
 use record::Record;
+use record::bad_count;
 use value::Refusal;
 use value::Value;
 

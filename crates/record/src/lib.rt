@@ -12,6 +12,7 @@ pub use makings::blank;
 pub use makings::get;
 pub use makings::push;
 pub use makings::set;
+pub use shapes::bad_count;
 pub use shapes::shape_of;
 use value::Kind;
 use value::Refusal;

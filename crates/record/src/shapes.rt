@@ -14,7 +14,7 @@ use value::Kind;
 use value::Refusal;
 
 // Rule 11.
-fn bad_count(n: usize) -> bool
+pub fn bad_count(n: usize) -> bool
     ensures { λ r. ⌜ r ≡ badCount n ⌝ }
 {
     n == 0 || 12 < n
