@@ -1,5 +1,4 @@
 -- Each way out is one law of what writing answers and leaves.
-use native.Mathlib.Omega.{arith}
 use Rattle.key.proofs.Ranges.{good-count}
 use Rattle.key.proofs.WriteSteps.{write-bad-count, write-short, write-nan, write-done}
 use borrow.Author.Needs.{needs}
@@ -38,7 +37,7 @@ returns-3 c =
 write-fields-requires : tie.Need-write-fields-requires
 write-fields-requires c κs =
     let counted = c .before .before .before .before in
-    (good-count _ (counted .before .before .bad-count .ensures) (counted .before .if1 .left), omega (arith, counted .key-length .ensures))
+    (good-count _ (counted .before .before .bad-count .ensures) (counted .before .if1 .left), rw (counted .key-length .ensures) at (c .before .before .before .if2 .left))
 
 returns-4 : tie.Need-returns-4
 returns-4 c =
