@@ -12,6 +12,7 @@ use crate::random::Random;
 use crate::value::{Kind, Value};
 
 /// An endless row of case lines, without newlines.
+#[derive(Clone)]
 pub struct Cases {
     random: Random,
 }

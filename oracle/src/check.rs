@@ -1,40 +1,18 @@
 //! Runs a program on made cases and compares its answers with our own.
 
 use std::ffi::OsStr;
-use std::io::{self, BufRead, BufReader, BufWriter, Write};
-use std::process::{Child, ChildStdin, Command, Stdio};
-use std::thread;
+use std::io::{self, Write};
 use std::time::{Instant, SystemTime, UNIX_EPOCH};
 
 use crate::cases::Cases;
 use crate::lines::{self, Judged, LINE_KINDS, MALFORMED};
+use crate::program;
 
 const SHOWN_DIFFERENCES: usize = 20;
 const SHOWN_BYTES: usize = 200;
 
 /// Cases of each seed of a long run.
 const SOAK_COUNT: usize = 1_000_000;
-
-/// One line without its newline; nothing at the end of the input. The last
-/// line may lack its newline.
-pub fn read_line(input: &mut impl BufRead) -> io::Result<Option<Vec<u8>>> {
-    let mut line = Vec::new();
-    if input.read_until(b'\n', &mut line)? == 0 {
-        return Ok(None);
-    }
-    if line.last() == Some(&b'\n') {
-        line.pop();
-    }
-    Ok(Some(line))
-}
-
-pub fn write_cases(seed: u64, count: usize, out: &mut impl Write) -> io::Result<()> {
-    for line in Cases::new(seed).take(count) {
-        out.write_all(&line)?;
-        out.write_all(b"\n")?;
-    }
-    out.flush()
-}
 
 /// Answers whether the program agreed in all.
 pub fn compare(seed: u64, count: usize, program: &OsStr, out: &mut impl Write) -> io::Result<bool> {
@@ -70,47 +48,14 @@ fn compare_seed(
     tally: &mut Tally,
     out: &mut impl Write,
 ) -> io::Result<bool> {
-    let mut child = start(program)?;
-    let input = child.stdin.take().expect("a piped input");
-    let mut answers = BufReader::new(child.stdout.take().expect("a piped output"));
-    let writer = thread::spawn(move || feed(seed, count, input));
-
-    // The writer makes its own cases from the same seed.
-    for case in Cases::new(seed).take(count) {
-        tally.judge(&case, read_line(&mut answers)?, out)?;
-    }
-    let too_many = read_line(&mut answers)?.is_some();
-    // Closes the pipe: a program that never stops writing ends here.
-    drop(answers);
-    writer.join().expect("the writing thread")?;
-    let status = child.wait()?;
-
+    let cases = Cases::new(seed).take(count);
+    let ended = program::ask(program, cases, |case, answer| {
+        tally.judge(&case, answer, out)
+    })?;
     if tally.missing > 0 {
         writeln!(out, "answers missing: {}", tally.missing)?;
     }
-    if too_many {
-        writeln!(out, "more answers than cases")?;
-    }
-    if !status.success() {
-        writeln!(out, "the program ended with {status}")?;
-    }
-    Ok(tally.differ == 0 && !too_many && status.success())
-}
-
-fn start(program: &OsStr) -> io::Result<Child> {
-    Command::new(program)
-        .stdin(Stdio::piped())
-        .stdout(Stdio::piped())
-        .spawn()
-        .map_err(|error| io::Error::new(error.kind(), format!("{}: {error}", program.display())))
-}
-
-/// A program that stops reading shows by its missing answers.
-fn feed(seed: u64, count: usize, input: ChildStdin) -> io::Result<()> {
-    match write_cases(seed, count, &mut BufWriter::new(input)) {
-        Err(error) if error.kind() == io::ErrorKind::BrokenPipe => Ok(()),
-        result => result,
-    }
+    Ok(ended.report(out)? && tally.differ == 0)
 }
 
 struct Tally {
@@ -186,20 +131,6 @@ fn shown(line: &[u8], place: usize) -> String {
 #[cfg(test)]
 mod tests {
     use super::*;
-
-    fn split(mut input: &[u8]) -> Vec<Vec<u8>> {
-        std::iter::from_fn(|| read_line(&mut input).expect("a slice reads")).collect()
-    }
-
-    #[test]
-    fn ends_of_lines() {
-        assert_eq!(split(b""), Vec::<Vec<u8>>::new());
-        assert_eq!(split(b"\n"), [b""]);
-        assert_eq!(split(b"a\n"), [b"a"]);
-        assert_eq!(split(b"a"), [b"a"]);
-        assert_eq!(split(b"a\n\nb"), [&b"a"[..], b"", b"b"]);
-        assert_eq!(split(b"a\r\n\n"), [&b"a\r"[..], b""]);
-    }
 
     #[test]
     fn a_tally_counts_and_shows() {

@@ -7,8 +7,10 @@ mod edges;
 mod fixed;
 mod judge;
 mod lines;
+mod list;
 mod malformed;
 mod odd;
+mod program;
 mod random;
 #[cfg(test)]
 mod rules;
@@ -19,6 +21,8 @@ mod value;
 use std::ffi::{OsStr, OsString};
 use std::io::{self, BufWriter, Write};
 use std::process::ExitCode;
+
+use cases::Cases;
 
 const USAGE: &str = "\
 usage: oracle cases SEED COUNT            case lines made from a seed
@@ -77,7 +81,7 @@ fn run(command: Command) -> io::Result<bool> {
     let mut out = BufWriter::new(io::stdout().lock());
     let well = match command {
         Command::Cases(seed, count) => {
-            check::write_cases(seed, count, &mut out)?;
+            program::write_lines(Cases::new(seed).take(count), &mut out)?;
             true
         }
         Command::Fixed => {
@@ -88,7 +92,7 @@ fn run(command: Command) -> io::Result<bool> {
         }
         Command::Answers => {
             let mut input = io::stdin().lock();
-            while let Some(line) = check::read_line(&mut input)? {
+            while let Some(line) = program::read_line(&mut input)? {
                 writeln!(out, "{}", lines::answer(&line))?;
             }
             true

@@ -1,6 +1,7 @@
 //! A small seeded generator (splitmix64): the same seed gives the same numbers
 //! everywhere.
 
+#[derive(Clone)]
 pub struct Random {
     state: u64,
 }

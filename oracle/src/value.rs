@@ -2,6 +2,8 @@
 
 use std::fmt;
 
+use crate::list;
+
 #[derive(Clone, Copy, PartialEq, Eq, Debug)]
 pub enum Kind {
     U8,
@@ -133,32 +135,25 @@ impl Value {
 /// No row of a case line has more samples.
 pub const LONGEST_ROW: usize = 8192;
 
-/// A row of samples, joined by commas; `-` is the empty row.
+/// A row of samples, each as its digits alone.
 pub fn parse_row(kind: Kind, text: &[u8]) -> Option<Vec<Value>> {
-    if text == b"-" {
-        return Some(Vec::new());
-    }
-    let row: Option<Vec<Value>> = text
-        .split(|&byte| byte == b',')
-        .map(|digits| Value::of_digits(kind, digits))
-        .collect();
-    row.filter(|row| row.len() <= LONGEST_ROW)
+    list::parse(text, LONGEST_ROW, |digits| Value::of_digits(kind, digits))
 }
 
-/// The length of a row, in decimal as it is printed: no sign, and no zero in
-/// front.
+/// The length of a row.
 pub fn parse_length(text: &[u8]) -> Option<usize> {
+    parse_decimal(text, LONGEST_ROW)
+}
+
+/// A number in decimal as it is printed: no sign, and no zero in front.
+pub fn parse_decimal(text: &[u8], greatest: usize) -> Option<usize> {
     let text = std::str::from_utf8(text).ok()?;
-    let length: usize = text.parse().ok()?;
-    (length <= LONGEST_ROW && length.to_string() == text).then_some(length)
+    let number: usize = text.parse().ok()?;
+    (number <= greatest && number.to_string() == text).then_some(number)
 }
 
 pub fn row_text(row: &[Value]) -> String {
-    if row.is_empty() {
-        return "-".to_string();
-    }
-    let samples: Vec<String> = row.iter().map(|sample| sample.digits()).collect();
-    samples.join(",")
+    list::text(row.iter().map(|sample| sample.digits()))
 }
 
 impl fmt::Display for Value {
