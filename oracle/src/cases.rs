@@ -3,6 +3,9 @@
 
 pub mod choice;
 pub mod convert;
+pub mod key;
+pub mod prefix;
+pub mod record;
 pub mod row;
 
 use crate::edges;
@@ -177,15 +180,17 @@ mod tests {
         let mut long_rows = 0;
         for line in Cases::new(6).take(50_000) {
             assert!(!line.contains(&b'\n'));
-            if line.len() > 200 {
+            let is_row = line.starts_with(b"rowclamp ") || line.starts_with(b"row ");
+            if lines::answer(&line) == lines::MALFORMED {
+                assert!(line.len() <= 400 || (1000..8000).contains(&line.len()));
+            } else if is_row {
                 assert!(line.len() < 8000);
-                let malformed = lines::answer(&line) == lines::MALFORMED;
-                let row = line.starts_with(b"rowclamp ") || line.starts_with(b"row ");
-                assert!(row || malformed && line.len() >= 1000);
-                long_rows += usize::from(!malformed);
+                long_rows += usize::from(line.len() > 200);
+            } else {
+                assert!(line.len() < 1300);
             }
         }
-        assert!((300..550).contains(&long_rows), "{long_rows}");
+        assert!((200..400).contains(&long_rows), "{long_rows}");
     }
 
     #[test]
@@ -221,11 +226,15 @@ mod tests {
             "refused 6 0",
             "refused 7 0",
             "refused 8 0",
+            "refused 9 0",
+            "refused 10 0",
+            "refused 11 0",
+            "refused 12 0",
             "-",
             "malformed",
         ];
         let answers: Vec<String> = Cases::new(8)
-            .take(50_000)
+            .take(80_000)
             .map(|line| lines::answer(&line))
             .collect();
         for answer in wanted {

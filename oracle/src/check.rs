@@ -8,7 +8,7 @@ use crate::cases::Cases;
 use crate::lines::{self, Judged, LINE_KINDS, MALFORMED};
 use crate::program;
 
-const SHOWN_DIFFERENCES: usize = 20;
+pub const SHOWN_DIFFERENCES: usize = 20;
 const SHOWN_BYTES: usize = 200;
 
 /// Cases of each seed of a long run.
@@ -113,7 +113,7 @@ fn differ_from(wanted: &[u8], got: &[u8]) -> usize {
 
 /// Bytes that don't print stand escaped, and a long line is cut so that the
 /// byte at a place is seen.
-fn shown(line: &[u8], place: usize) -> String {
+pub fn shown(line: &[u8], place: usize) -> String {
     if line.len() <= SHOWN_BYTES {
         return line.escape_ascii().to_string();
     }

@@ -4,6 +4,9 @@
 
 pub mod choice;
 pub mod convert;
+pub mod key;
+pub mod prefix;
+pub mod record;
 pub mod row;
 
 use std::cmp::Ordering;

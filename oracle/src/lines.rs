@@ -15,7 +15,7 @@ pub struct LineKind {
     pub judge: Judge,
 }
 
-pub const LINE_KINDS: [LineKind; 15] = [
+pub const LINE_KINDS: [LineKind; 22] = [
     line_kind("class", cases::one_float, judge::class),
     line_kind("compare", cases::pair, judge::compare),
     line_kind("total", cases::pair, judge::total),
@@ -31,6 +31,13 @@ pub const LINE_KINDS: [LineKind; 15] = [
     line_kind("rowclamp", cases::row::rowclamp, judge::choice::rowclamp),
     line_kind("convert", cases::convert::convert, judge::convert::convert),
     line_kind("row", cases::row::row, judge::row::row),
+    line_kind("rcompare", cases::record::pair, judge::record::rcompare),
+    line_kind("rmin", cases::record::pair, judge::record::rmin),
+    line_kind("rmax", cases::record::pair, judge::record::rmax),
+    line_kind("write", cases::key::write, judge::key::write),
+    line_kind("read", cases::key::read, judge::key::read),
+    line_kind("prefixmin", cases::prefix::rows, judge::prefix::prefixmin),
+    line_kind("prefixmax", cases::prefix::rows, judge::prefix::prefixmax),
 ];
 
 const fn line_kind(word: &'static str, make: Make, judge: Judge) -> LineKind {

@@ -1,6 +1,7 @@
 //! An independent second program for the case lines: it makes cases, answers
 //! them, and compares another program's answers with its own.
 
+mod bytes;
 mod cases;
 mod check;
 mod edges;
@@ -10,8 +11,10 @@ mod lines;
 mod list;
 mod malformed;
 mod odd;
+mod order;
 mod program;
 mod random;
+mod record;
 #[cfg(test)]
 mod rules;
 #[cfg(test)]
@@ -30,6 +33,7 @@ usage: oracle cases SEED COUNT            case lines made from a seed
        oracle answers                     answers to the case lines on standard input
        oracle compare SEED COUNT PROGRAM  a program's answers against ours
        oracle soak SECONDS PROGRAM        the same, seed after seed for that time
+       oracle order SEED COUNT PROGRAM    the order of a program's keys against comparison
 ";
 
 enum Command<'a> {
@@ -38,6 +42,7 @@ enum Command<'a> {
     Answers,
     Compare(u64, usize, &'a OsStr),
     Soak(u64, &'a OsStr),
+    Order(u64, usize, &'a OsStr),
 }
 
 fn main() -> ExitCode {
@@ -68,6 +73,9 @@ fn command(arguments: &[OsString]) -> Option<Command<'_>> {
             Some(Command::Compare(number(seed)?, number(count)?, program))
         }
         ("soak", [seconds, program]) => Some(Command::Soak(number(seconds)?, program)),
+        ("order", [seed, count, program]) => {
+            Some(Command::Order(number(seed)?, number(count)?, program))
+        }
         _ => None,
     }
 }
@@ -99,6 +107,7 @@ fn run(command: Command) -> io::Result<bool> {
         }
         Command::Compare(seed, count, program) => check::compare(seed, count, program, &mut out)?,
         Command::Soak(seconds, program) => check::soak(seconds, program, &mut out)?,
+        Command::Order(seed, count, program) => order::order(seed, count, program, &mut out)?,
     };
     out.flush()?;
     Ok(well)

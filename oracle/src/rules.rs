@@ -1,12 +1,16 @@
 //! The rules in whole numbers, for the tests alone: class, scaled number,
-//! comparison, total order, choosing, clamping and conversion, without any
-//! float.
+//! comparison, total order, choosing, clamping, conversion, records and keys,
+//! without any float.
 
 mod convert;
+mod key;
+mod record;
 
 use std::cmp::Ordering;
 
 pub use convert::{convert, convert_row};
+pub use key::{max_by_prefix, min_by_prefix, read, write};
+pub use record::{compare_records, max_record, min_record};
 
 use crate::value::{Kind, Value};
 

@@ -2,6 +2,10 @@
 
 mod choice;
 mod convert;
+mod key;
+mod order;
+mod prefix;
+mod record;
 mod row;
 
 use std::cmp::Ordering;

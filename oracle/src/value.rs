@@ -74,6 +74,11 @@ impl Kind {
         }
     }
 
+    /// Width in bytes.
+    pub fn bytes(self) -> usize {
+        self.width() as usize / 8
+    }
+
     /// Number of hex digits of a value of this kind.
     pub fn digits(self) -> usize {
         self.width() as usize / 4
@@ -164,7 +169,7 @@ impl fmt::Display for Value {
 
 /// At most sixteen digits. Rust's own reading of numbers isn't used: it takes
 /// a sign and upper case.
-fn hex(digits: &[u8]) -> Option<u64> {
+pub fn hex(digits: &[u8]) -> Option<u64> {
     let mut bits = 0;
     for &digit in digits {
         let number = match digit {
