@@ -1,6 +1,10 @@
 //! Lines that aren't of the grammar: each a case line spoiled in one way.
 
 mod convert;
+mod decimal;
+mod key;
+mod list;
+mod record;
 mod row;
 mod value;
 
@@ -8,7 +12,7 @@ use crate::cases;
 use crate::odd;
 use crate::random::Random;
 
-const WAYS: [fn(&mut Random) -> Vec<u8>; 26] = [
+const WAYS: [fn(&mut Random) -> Vec<u8>; 33] = [
     unknown_word,
     value::unknown_kind,
     operand_count,
@@ -35,17 +39,26 @@ const WAYS: [fn(&mut Random) -> Vec<u8>; 26] = [
     row::odd_pair,
     row::odd_kind_of_samples,
     row::odd_room,
+    record::odd_value,
+    record::odd_joint,
+    record::odd_list,
+    key::odd_room,
+    key::odd_shape,
+    key::odd_bytes,
+    key::odd_k,
 ];
 
-/// At most 200 bytes.
+/// At most 400 bytes.
 pub fn short(random: &mut Random) -> Vec<u8> {
     random.pick(&WAYS)(random)
 }
 
 /// Some thousand bytes.
 pub fn long(random: &mut Random) -> Vec<u8> {
-    if random.one_in(3) {
-        return row::long(random);
+    match random.below(6) {
+        0..2 => return row::long(random),
+        2 => return record::long(random),
+        _ => {}
     }
     let count = 2000 + random.below(4000);
     let mut fields = fields(random);
@@ -60,12 +73,17 @@ pub fn long(random: &mut Random) -> Vec<u8> {
     joined(&fields)
 }
 
-/// The fields of a case line that is well formed, its row no longer than 7.
+/// The fields of a case line that is well formed, its row no longer than 7 and
+/// its records of 2 to 4 fields.
 fn fields(random: &mut Random) -> Vec<Vec<u8>> {
-    if random.one_in(5) {
-        return row::fields(random);
+    match random.below(20) {
+        0..4 => row::fields(random),
+        4..7 => record::fields(random),
+        7 => key::write_fields(random),
+        8 => key::read_fields(random),
+        9..11 => key::prefix_fields(random),
+        _ => value::fields(random),
     }
-    value::fields(random)
 }
 
 fn split(line: &str) -> Vec<Vec<u8>> {
@@ -131,22 +149,34 @@ fn odd_end(random: &mut Random) -> Vec<u8> {
     [&line, random.pick(&odd::ENDS).as_bytes()].concat()
 }
 
-/// The words part by the count of their operands, or by which are values.
+/// The words part by the count of their operands, or by what these are.
 fn word_of_another(random: &mut Random) -> Vec<u8> {
-    let mut fields = fields(random);
-    let words = [
-        "class",
-        random.pick(&value::PAIR_WORDS),
-        "clamp",
-        "rowclamp",
-        "convert",
-        "row",
+    const FAMILIES: [&[&str]; 10] = [
+        &value::PAIR_WORDS,
+        &record::WORDS,
+        &["rowclamp"],
+        &key::PREFIX_WORDS,
+        &["class"],
+        &["clamp"],
+        &["convert"],
+        &["row"],
+        &["write"],
+        &["read"],
     ];
-    let own = words.iter().position(|word| word.as_bytes() == fields[0]);
-    // Any word of a pair stands for all of them.
-    let own = own.unwrap_or(1);
-    let other = (own + 1 + random.below(words.len() - 1)) % words.len();
-    fields[0] = words[other].as_bytes().to_vec();
+    let mut fields = fields(random);
+    let is_own = |word: &&str| word.as_bytes() == fields[0];
+    let own = FAMILIES
+        .iter()
+        .position(|words| words.iter().any(|word| is_own(word)));
+    let own = own.expect("a word of a line");
+    let other = loop {
+        let other = random.below(FAMILIES.len());
+        // A value is a record, and bounds may read as a number and a row.
+        if other != own && ![(0, 1), (2, 3)].contains(&(own, other)) {
+            break other;
+        }
+    };
+    fields[0] = random.pick(FAMILIES[other]).as_bytes().to_vec();
     joined(&fields)
 }
 
@@ -203,7 +233,7 @@ mod tests {
         for way in WAYS {
             for _ in 0..2000 {
                 let line = way(&mut random);
-                assert!(line.len() <= 200 && !line.contains(&b'\n'));
+                assert!(line.len() <= 400 && !line.contains(&b'\n'));
                 assert_eq!(
                     lines::answer(&line),
                     lines::MALFORMED,
@@ -219,7 +249,7 @@ mod tests {
         let mut random = Random::new(10);
         for _ in 0..500 {
             let line = long(&mut random);
-            assert!(line.len() >= 2000 && line.len() < 10_000 && !line.contains(&b'\n'));
+            assert!(line.len() >= 1500 && line.len() < 8000 && !line.contains(&b'\n'));
             assert_eq!(lines::answer(&line), lines::MALFORMED);
         }
     }

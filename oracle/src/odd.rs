@@ -2,7 +2,7 @@
 //! become the word of a line kind.
 
 /// In the place of the word.
-pub const WORDS: [&str; 29] = [
+pub const WORDS: [&str; 40] = [
     "",
     "-",
     "#",
@@ -26,6 +26,17 @@ pub const WORDS: [&str; 29] = [
     "ro",
     "rows",
     "row_convert",
+    "record",
+    "req",
+    "rtotal",
+    "rclamp",
+    "key",
+    "writes",
+    "write_key",
+    "reads",
+    "prefix",
+    "min_by_key",
+    "prefix_max",
     "yes",
     "Less",
     "malformed",
@@ -121,8 +132,8 @@ pub const ROWS: [&str; 12] = [
     "", ",", ",,", "--", "-,", ",-", "-,-", "- -", "[]", "()", "0", "none",
 ];
 
-/// In the place of the length of a row.
-pub const LENGTHS: [&str; 32] = [
+/// In the place of a decimal number.
+pub const DECIMALS: [&str; 25] = [
     "",
     "-",
     "-0",
@@ -134,13 +145,6 @@ pub const LENGTHS: [&str; 32] = [
     "007",
     "0256",
     "00000000000000000000000000000001",
-    "8193",
-    "9999",
-    "10000",
-    "65536",
-    "65537",
-    "4294967296",
-    "4294967297",
     "18446744073709551616",
     "18446744073709551617",
     "340282366920938463463374607431768211457",
@@ -155,4 +159,34 @@ pub const LENGTHS: [&str; 32] = [
     "u8:01",
     "1\0",
     "\u{661}",
+];
+
+/// Too great for the length of a row.
+pub const LENGTHS: [&str; 7] = [
+    "8193",
+    "9999",
+    "10000",
+    "65536",
+    "65537",
+    "4294967296",
+    "4294967297",
+];
+
+/// Too great for the room of a key.
+pub const ROOMS: [&str; 9] = [
+    "129",
+    "130",
+    "200",
+    "255",
+    "256",
+    "384",
+    "1000",
+    "8192",
+    "4294967296",
+];
+
+/// In the place of a string of bytes.
+pub const BYTES: [&str; 16] = [
+    "", "--", "0", "000", "0-", "-0", "0x00", "00,00", "00 00", "00-00", "u8:00", "0A", "0g", "+1",
+    "none", "[]",
 ];

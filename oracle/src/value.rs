@@ -246,6 +246,10 @@ mod tests {
         }
         for text in odd::LENGTHS {
             assert_eq!(parse_length(text.as_bytes()), None, "{text}");
+            assert!(parse_decimal(text.as_bytes(), usize::MAX).is_some());
+        }
+        for text in odd::DECIMALS {
+            assert_eq!(parse_decimal(text.as_bytes(), usize::MAX), None, "{text}");
         }
     }
 }

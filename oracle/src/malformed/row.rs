@@ -1,7 +1,7 @@
 //! Rows that aren't of the grammar, clamped or converted. Their samples are the
 //! third operand.
 
-use super::{joined, split};
+use super::{decimal, joined, list, split};
 use crate::cases::row;
 use crate::judge::row::PAIRS;
 use crate::odd;
@@ -86,14 +86,7 @@ pub fn odd_kind_of_samples(random: &mut Random) -> Vec<u8> {
 
 pub fn odd_room(random: &mut Random) -> Vec<u8> {
     let mut fields = conversion(random);
-    let room = &mut fields[4];
-    match random.below(8) {
-        0 => room.insert(0, b'0'),
-        1 => room.insert(0, random.pick(b"+- \t")),
-        2 => room.extend(b"00000"),
-        3 => room.push(random.pick(b"/:. \ta\x00\xff")),
-        _ => *room = random.pick(&odd::LENGTHS).as_bytes().to_vec(),
-    }
+    fields[4] = decimal::spoiled(random, &fields[4], &odd::LENGTHS);
     joined(&fields)
 }
 
@@ -134,14 +127,7 @@ pub fn odd_joint(random: &mut Random) -> Vec<u8> {
 /// An odd row, or an odd start or end of a row.
 pub fn odd_row(random: &mut Random) -> Vec<u8> {
     let mut fields = fields(random);
-    let row = &mut fields[3];
-    match random.below(8) {
-        0 => row.push(b','),
-        1 => row.insert(0, b','),
-        2 => row.extend(b",-"),
-        3 => row.splice(0..0, *b"-,").for_each(drop),
-        _ => *row = random.pick(&odd::ROWS).as_bytes().to_vec(),
-    }
+    fields[3] = list::odd_ends(random, fields[3].clone());
     joined(&fields)
 }
 
@@ -174,11 +160,7 @@ fn with_odd_sample(random: &mut Random, mut fields: Vec<Vec<u8>>) -> Vec<u8> {
 }
 
 fn with_odd_joint(random: &mut Random, mut fields: Vec<Vec<u8>>) -> Vec<u8> {
-    let row = &mut fields[3];
-    let joints: Vec<usize> = (0..row.len()).filter(|&at| row[at] == b',').collect();
-    let joint = random.pick(&joints);
-    let odd = random.pick(&odd::JOINTS).bytes();
-    row.splice(joint..=joint, odd).for_each(drop);
+    fields[3] = list::with_odd_joint(random, fields[3].clone());
     joined(&fields)
 }
 

@@ -33,43 +33,64 @@ fn with_operand(random: &mut Random, change: fn(&mut Random, Value) -> Vec<u8>) 
     joined(&fields)
 }
 
+/// A value that is none in one of these ways is none within a record too.
+pub fn spoiled(random: &mut Random, value: Value) -> Vec<u8> {
+    let ways = [
+        of_unknown_kind,
+        with_digit_count,
+        with_upper_case,
+        with_foreign,
+    ];
+    random.pick(&ways)(random, value)
+}
+
 pub fn unknown_kind(random: &mut Random) -> Vec<u8> {
-    with_operand(random, |random, value| {
-        let text = value.to_string();
-        let (kind, digits) = text.split_once(':').expect("a colon");
-        let kind = match random.below(4) {
-            0 => kind.to_ascii_uppercase(),
-            _ => random.pick(&odd::KINDS).to_string(),
-        };
-        format!("{kind}:{digits}").into_bytes()
-    })
+    with_operand(random, of_unknown_kind)
 }
 
 pub fn digit_count(random: &mut Random) -> Vec<u8> {
-    with_operand(random, |random, value| {
-        let mut text = value.to_string().into_bytes();
-        let first = text.len() - value.kind.digits();
-        match random.below(6) {
-            0 => text.truncate(text.len() - 1),
-            1 => text.truncate(first),
-            2 => text.push(b'0'),
-            3 => text.insert(first, b'0'),
-            4 => text.extend_from_within(first..),
-            _ => text.truncate(first + value.kind.digits() / 2),
-        }
-        text
-    })
+    with_operand(random, with_digit_count)
 }
 
 pub fn upper_case_digit(random: &mut Random) -> Vec<u8> {
-    with_operand(random, |random, value| with_digit(random, value, b"ABCDEF"))
+    with_operand(random, with_upper_case)
+}
+
+pub fn foreign_digit(random: &mut Random) -> Vec<u8> {
+    with_operand(random, with_foreign)
+}
+
+fn of_unknown_kind(random: &mut Random, value: Value) -> Vec<u8> {
+    let text = value.to_string();
+    let (kind, digits) = text.split_once(':').expect("a colon");
+    let kind = match random.below(4) {
+        0 => kind.to_ascii_uppercase(),
+        _ => random.pick(&odd::KINDS).to_string(),
+    };
+    format!("{kind}:{digits}").into_bytes()
+}
+
+fn with_digit_count(random: &mut Random, value: Value) -> Vec<u8> {
+    let mut text = value.to_string().into_bytes();
+    let first = text.len() - value.kind.digits();
+    match random.below(6) {
+        0 => text.truncate(text.len() - 1),
+        1 => text.truncate(first),
+        2 => text.push(b'0'),
+        3 => text.insert(first, b'0'),
+        4 => text.extend_from_within(first..),
+        _ => text.truncate(first + value.kind.digits() / 2),
+    }
+    text
+}
+
+fn with_upper_case(random: &mut Random, value: Value) -> Vec<u8> {
+    with_digit(random, value, b"ABCDEF")
 }
 
 /// Among the foreign digits are the neighbours of the digits by byte.
-pub fn foreign_digit(random: &mut Random) -> Vec<u8> {
-    with_operand(random, |random, value| {
-        with_digit(random, value, b"/:@G`gxXzOl-+_., \x00\x7f\x80\xff")
-    })
+fn with_foreign(random: &mut Random, value: Value) -> Vec<u8> {
+    with_digit(random, value, b"/:@G`gxXzOl-+_., \x00\x7f\x80\xff")
 }
 
 fn with_digit(random: &mut Random, value: Value, digits: &[u8]) -> Vec<u8> {
