@@ -2,6 +2,9 @@
 
 mod choice;
 mod convert;
+mod key;
+mod prefix;
+mod record;
 mod row;
 mod rowclamp;
 
@@ -12,8 +15,9 @@ use crate::value::{Kind, Value};
 
 const TESTS: [&str; 6] = ["eq", "ne", "lt", "le", "gt", "ge"];
 
-/// Cases 1 to 11 of the marked ones, then 1 to 4 and 11 alike for f64.
-const MARKED: [&str; 40] = [
+/// The marked cases, 1 to 14; then 1 to 4, 11 and 14 alike for f64, and what 13
+/// wrote is read.
+const MARKED: [&str; 48] = [
     "compare f32:00000000 f32:80000000",
     "total f32:00000000 f32:80000000",
     "total f32:80000000 f32:00000000",
@@ -42,6 +46,11 @@ const MARKED: [&str; 40] = [
     "convert i8:ff u8",
     "clamp f32:80000000 f32:00000000 f32:3f800000",
     "rowclamp 00000000 3f800000 80000000",
+    "rcompare u8:01,f32:7fc00000 u8:02,f32:7fc00000",
+    "rcompare u8:01,f32:7fc00000 u8:01,f32:00000000",
+    "write u16:0102,i16:ffff,f32:bf800000 8",
+    "write f32:80000000 4",
+    "read f32 7fffffff",
     "compare f64:0000000000000000 f64:8000000000000000",
     "total f64:0000000000000000 f64:8000000000000000",
     "total f64:8000000000000000 f64:0000000000000000",
@@ -54,6 +63,9 @@ const MARKED: [&str; 40] = [
     "class f64:0010000000000000",
     "compare f64:000fffffffffffff f64:0010000000000000",
     "clamp f64:8000000000000000 f64:0000000000000000 f64:3ff0000000000000",
+    "write f64:8000000000000000 8",
+    "read f64 7fffffffffffffff",
+    "read u16,i16,f32 01027fff407fffff",
 ];
 
 /// Malformed lines, of plain ASCII.
@@ -133,6 +145,9 @@ pub fn lines() -> Vec<String> {
     rowclamp::push(&mut lines);
     convert::push(&mut lines);
     row::push(&mut lines);
+    record::push(&mut lines);
+    key::push(&mut lines);
+    prefix::push(&mut lines);
     lines.extend(malformed().map(String::from));
     let mut random = Random::new(754);
     lines.extend((0..120).map(|_| cases::well_formed(&mut random)));
@@ -146,6 +161,9 @@ fn malformed() -> impl Iterator<Item = &'static str> {
         .chain(rowclamp::MALFORMED)
         .chain(convert::MALFORMED)
         .chain(row::MALFORMED)
+        .chain(record::MALFORMED)
+        .chain(key::MALFORMED)
+        .chain(prefix::MALFORMED)
 }
 
 fn push_pair(lines: &mut Vec<String>, word: &str, first: Value, second: Value) {
@@ -264,9 +282,9 @@ mod tests {
     #[test]
     fn length_and_text() {
         let lines = lines();
-        assert!((1000..=6000).contains(&lines.len()), "{}", lines.len());
+        assert!((1000..=9000).contains(&lines.len()), "{}", lines.len());
         let bytes: usize = lines.iter().map(|line| line.len() + 1).sum();
-        assert!(bytes < 500_000, "{bytes}");
+        assert!(bytes < 800_000, "{bytes}");
         assert!(lines
             .iter()
             .all(|line| line.is_ascii() && !line.contains('\n')));
