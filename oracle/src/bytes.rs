@@ -10,7 +10,7 @@ pub fn parse(text: &[u8]) -> Option<Vec<u8>> {
     if text == b"-" {
         return Some(Vec::new());
     }
-    if text.is_empty() || text.len() % 2 != 0 || text.len() / 2 > LONGEST {
+    if text.is_empty() || text.len() % 2 == 1 || text.len() / 2 > LONGEST {
         return None;
     }
     let byte = |digits| Some(value::hex(digits)? as u8);

@@ -8,9 +8,11 @@ mod record;
 mod row;
 mod rowclamp;
 
+use crate::bytes;
 use crate::cases;
 use crate::edges;
 use crate::random::Random;
+use crate::record::LONGEST;
 use crate::value::{Kind, Value};
 
 const TESTS: [&str; 6] = ["eq", "ne", "lt", "le", "gt", "ge"];
@@ -148,14 +150,14 @@ pub fn lines() -> Vec<String> {
     record::push(&mut lines);
     key::push(&mut lines);
     prefix::push(&mut lines);
-    lines.extend(malformed().map(String::from));
+    lines.extend(malformed());
     let mut random = Random::new(754);
     lines.extend((0..120).map(|_| cases::well_formed(&mut random)));
     lines
 }
 
-fn malformed() -> impl Iterator<Item = &'static str> {
-    MALFORMED
+fn malformed() -> Vec<String> {
+    let written = MALFORMED
         .into_iter()
         .chain(choice::MALFORMED)
         .chain(rowclamp::MALFORMED)
@@ -163,7 +165,24 @@ fn malformed() -> impl Iterator<Item = &'static str> {
         .chain(row::MALFORMED)
         .chain(record::MALFORMED)
         .chain(key::MALFORMED)
-        .chain(prefix::MALFORMED)
+        .chain(prefix::MALFORMED);
+    written.map(String::from).chain(too_long()).collect()
+}
+
+/// Records, shapes and bytes, each longer by one than a line may have.
+fn too_long() -> [String; 7] {
+    let list = |item: &str| vec![item; LONGEST + 1].join(",");
+    let (record, shape) = (list("u8:07"), list("u8"));
+    let hex = "07".repeat(bytes::LONGEST + 1);
+    [
+        format!("rcompare {record} u8:07"),
+        format!("rmin u8:07 {record}"),
+        format!("write {record} 128"),
+        format!("read {shape} {}", "07".repeat(LONGEST + 1)),
+        format!("read u8 {hex}"),
+        format!("prefixmin 1 {hex} 07"),
+        format!("prefixmax 1 07 {hex}"),
+    ]
 }
 
 fn push_pair(lines: &mut Vec<String>, word: &str, first: Value, second: Value) {
@@ -292,9 +311,10 @@ mod tests {
 
     #[test]
     fn only_the_malformed_are_malformed() {
+        let malformed_lines = super::malformed();
         for line in lines() {
             let malformed = grammar::answer(line.as_bytes()) == grammar::MALFORMED;
-            let listed = super::malformed().any(|listed| listed == line);
+            let listed = malformed_lines.contains(&line);
             assert_eq!(malformed, listed, "{line:?}");
         }
     }

@@ -53,7 +53,7 @@ pub fn short(random: &mut Random) -> Vec<u8> {
     random.pick(&WAYS)(random)
 }
 
-/// Some thousand bytes.
+/// A thousand bytes or more.
 pub fn long(random: &mut Random) -> Vec<u8> {
     match random.below(6) {
         0..2 => return row::long(random),
@@ -165,9 +165,7 @@ fn word_of_another(random: &mut Random) -> Vec<u8> {
     ];
     let mut fields = fields(random);
     let is_own = |word: &&str| word.as_bytes() == fields[0];
-    let own = FAMILIES
-        .iter()
-        .position(|words| words.iter().any(|word| is_own(word)));
+    let own = FAMILIES.iter().position(|words| words.iter().any(&is_own));
     let own = own.expect("a word of a line");
     let other = loop {
         let other = random.below(FAMILIES.len());
@@ -249,7 +247,7 @@ mod tests {
         let mut random = Random::new(10);
         for _ in 0..500 {
             let line = long(&mut random);
-            assert!(line.len() >= 1500 && line.len() < 8000 && !line.contains(&b'\n'));
+            assert!(line.len() >= 1000 && line.len() < 8000 && !line.contains(&b'\n'));
             assert_eq!(lines::answer(&line), lines::MALFORMED);
         }
     }

@@ -66,7 +66,7 @@ fn field_key(value: Value) -> Vec<u8> {
     floats: {
         // Minus zero and plus zero together are plus zero.
         let bits = (x + 0.0).to_bits();
-        let rank = if x < 0.0 { !bits } else { low.to_bits() | bits };
+        let rank = if x < 0.0 { !bits } else { low.to_bits() + bits };
         rank.to_be_bytes().to_vec()
     })
 }

@@ -1,6 +1,7 @@
 //! Records that aren't of the grammar.
 
 use super::{joined, list, split, value};
+use crate::bytes;
 use crate::cases;
 use crate::cases::record::numbers;
 use crate::random::Random;
@@ -75,11 +76,12 @@ fn shape_of(text: &[u8]) -> Vec<u8> {
     record::shape_text(&record::shape(&record)).into_bytes()
 }
 
-/// Some thousand bytes: a record or a shape of far too many, or bytes.
+/// A thousand bytes or more: a record or a shape of far too many, or a string of
+/// bytes that is too long.
 pub fn long(random: &mut Random) -> Vec<u8> {
     let count = 400 + random.below(400);
     let list = |item: &str| vec![item; count].join(",");
-    let hex = "80".repeat(600 + count);
+    let hex = "80".repeat(bytes::LONGEST + 1 + random.below(count));
     match random.below(6) {
         0 => format!("rcompare {} u8:00", list("u8:00")),
         1 => format!("rmax u16:0000 {}", list("u16:0000")),
