@@ -1,19 +1,19 @@
 -- Which case of a digit's definition the tests pick, and how a number goes on by one digit.
-use Prim.Native.Nat.{ℕ, _+_, _-_, _*_, _^_, _≤_, _<_}
+use Prim.Native.Nat.{ℕ, _+_, _-_, _*_, _/_, _^_, _≤_, _<_}
 use mathlib.Core.Path.{_≡_, refl, _∙_, ap}
 use mathlib.Core.Bool.{Bool, true, false, cond, _&&_, and-false}
 use mathlib.Core.List.{List}
-use native.Mathlib.Nat.{le-trans, lt-of-lt-of-le, mul-le-mul-right, pow-le-pow-right, pow-zero, pow-suc}
+use native.Mathlib.Nat.{le-div-iff-mul-le, div-lt-iff-lt-mul}
 use native.Mathlib.Numerals.{add-one}
 use native.Mathlib.Omega.{arith}
-use borrow.Author.Tests.{le-leb, lt-leb, leb-true, lt-ltb, le-ltb, ltb-true}
-use lib.Dec.{eqb, leb, ltb, lit<}
+use borrow.Author.Tests.{eq-eqb, ne-eqb, le-leb, lt-leb, leb-true, lt-ltb, le-ltb, ltb-true}
+use lib.Dec.{eqb, leb, ltb}
 use lib.ListN.{length, getD, drop, drop-of-length-le}
 use lib.Seq.{drop-cons}
 use Rattle.text.specs.declared.Digit.{Digit}
 use Rattle.text.specs.declared.Digit.the-variants as digit
 use Rattle.text.specs.declared.Number.the-variants as number
-use Rattle.text.specs.Digits.{within, digitOf, below, digitIn, withDigit, numberFrom, hexOf, zeroAhead, decimalOf}
+use Rattle.text.specs.Digits.{within, digitOf, below, digitIn, withDigit, withWord, numberFrom, hexOf, zeroAhead, decimalOf}
 
 -- ---- a range
 
@@ -92,33 +92,32 @@ module _ (base : ℕ) (s : List ℕ) (i n : ℕ) where
   unfolding numberFrom
   number-ends h = rw (drop-of-length-le s h)
 
-  number-next : i < length s → numberFrom base (drop i s) n ≡ withDigit (digitIn base (getD s i 0)) (λ d. numberFrom base (drop (i + 1) s) (n * base + d))
+  number-next : i < length s → numberFrom base (drop i s) n ≡ withDigit (digitIn base (getD s i 0)) (λ d. withWord (n * base + d) (λ m. numberFrom base (drop (i + 1) s) m))
   unfolding numberFrom
   number-next h = rw (drop-cons s i 0 h, add-one)
 
   pub number-stops : i < length s → digitIn base (getD s i 0) ≡ digit.Nothing → numberFrom base (drop i s) n ≡ number.Malformed
-  number-stops h e = number-next h ∙ ap (λ (x : Digit). withDigit x (λ d. numberFrom base (drop (i + 1) s) (n * base + d))) e
+  number-stops h e = number-next h ∙ ap (λ (x : Digit). withDigit x (λ d. withWord (n * base + d) (λ m. numberFrom base (drop (i + 1) s) m))) e
 
-  pub number-more : (d : ℕ) → i < length s → digitIn base (getD s i 0) ≡ digit.Is d → numberFrom base (drop i s) n ≡ numberFrom base (drop (i + 1) s) (n * base + d)
-  number-more d h e = number-next h ∙ ap (λ (x : Digit). withDigit x (λ k. numberFrom base (drop (i + 1) s) (n * base + k))) e
+  module _ (d : ℕ) (h : i < length s) (e : digitIn base (getD s i 0) ≡ digit.Is d) where
+    number-grows : numberFrom base (drop i s) n ≡ withWord (n * base + d) (λ m. numberFrom base (drop (i + 1) s) m)
+    number-grows = number-next h ∙ ap (λ (x : Digit). withDigit x (λ k. withWord (n * base + k) (λ m. numberFrom base (drop (i + 1) s) m))) e
 
--- no digit, and one more digit
-pub narrowest : (base : ℕ) → 0 < base ^ 0
-narrowest base = rw pow-zero (lit< tt)
+    pub number-large : 2 ^ 64 ≤ n * base + d → numberFrom base (drop i s) n ≡ number.Malformed
+    number-large l = number-grows ∙ rw (le-ltb _ _ l)
 
-pub wider : (base n i d : ℕ) → n < base ^ i → d < base → n * base + d < base ^ (i + 1)
-wider base n i d h l = rw (add-one, pow-suc) (let m = mul-le-mul-right base h in omega arith)
+    pub number-more : n * base + d < 2 ^ 64 → numberFrom base (drop i s) n ≡ numberFrom base (drop (i + 1) s) (n * base + d)
+    number-more l = number-grows ∙ rw (lt-ltb _ _ l)
 
--- a number of that many digits and one more is below the bound of the longest
-pub room : (base n i d k : ℕ) → n < base ^ i → d < base → i < k → base ^ k ≤ 2 ^ 64 → n * base + d < 2 ^ 64
-room base n i d k h l m b =
-    let z : 0 < base = omega arith in
-    lt-of-lt-of-le (wider base n i d h l) (le-trans (pow-le-pow-right z (rw add-one m)) b)
+-- the test for room, which itself stays below 2^64
+module _ (base n d : ℕ) (h : d < base) where
+  pub no-room : (2 ^ 64 - 1 - d) / base < n → 2 ^ 64 ≤ n * base + d
+  no-room l = let m = div-lt-iff-lt-mul {k = base} (omega arith) .0 l in omega arith
+
+  pub room : base ≤ 2 ^ 64 → n ≤ (2 ^ 64 - 1 - d) / base → n * base + d < 2 ^ 64
+  room b l = let m = le-div-iff-mul-le {k = base} (omega arith) .0 l in omega arith
 
 -- ---- how many digits there are
-
-pub fits : (base most : ℕ) → 0 < base → base ^ most ≤ 2 ^ 64 → {k : ℕ} → k ≤ most → base ^ k ≤ 2 ^ 64
-fits base most z b l = le-trans (pow-le-pow-right z l) b
 
 module _ (s : List ℕ) where
   pub hex-counted : (length s ≡ 0 → ⊥) → length s ≤ 16 → hexOf s ≡ numberFrom 16 s 0
@@ -135,16 +134,12 @@ module _ (s : List ℕ) where
 
   pub decimal-empty : length s ≡ 0 → decimalOf s ≡ number.Malformed
   unfolding decimalOf
-  decimal-empty h = let k : length s < 1 = omega arith in simp (within-below 1 19 (length s) k)
+  decimal-empty h = rw (eq-eqb _ _ h)
 
-  pub decimal-long : 19 < length s → decimalOf s ≡ number.Malformed
-  unfolding decimalOf
-  decimal-long h = simp (within-above 1 19 (length s) h)
-
-  module _ (nonempty : length s ≡ 0 → ⊥) (l : length s ≤ 19) where
+  module _ (nonempty : length s ≡ 0 → ⊥) where
     decimal-tested : decimalOf s ≡ cond (zeroAhead s) number.Malformed (numberFrom 10 s 0)
     unfolding decimalOf
-    decimal-tested = let k : 1 ≤ length s = omega arith in simp (within-inside 1 19 (length s) k l)
+    decimal-tested = rw (ne-eqb _ _ nonempty)
 
     pub decimal-padded : 1 < length s → eqb (getD s 0 0) 48 ≡ true → decimalOf s ≡ number.Malformed
     decimal-padded h e = decimal-tested ∙ rw (lt-ltb _ _ h, e)

@@ -1,6 +1,6 @@
 -- Digits, and the numbers that they spell.
-use Prim.Native.Nat.{ℕ, _+_, _-_, _*_, _%_}
-use mathlib.Core.Bool.{Bool, cond, _&&_}
+use Prim.Native.Nat.{ℕ, _+_, _-_, _*_, _%_, _^_}
+use mathlib.Core.Bool.{Bool, cond, _&&_, _||_}
 use mathlib.Core.List.{List, [], _∷_}
 use lib.Dec.{eqb, leb, ltb}
 use lib.ListN.{length, getD}
@@ -38,10 +38,14 @@ abbrev pub withDigit : Digit → (ℕ → Number) → Number
 withDigit (digit.Is d) next = next d
 withDigit digit.Nothing next = number.Malformed
 
+-- what a number below 2^64 gives, and malformed where it isn't
+abbrev pub withWord : ℕ → (ℕ → Number) → Number
+withWord n next = cond (ltb n (2 ^ 64)) (next n) number.Malformed
+
 -- the number whose digits so far are n and whose further digits are these
 unfoldable pub numberFrom : ℕ → List ℕ → ℕ → Number
 numberFrom base [] n = number.Is n
-numberFrom base (b ∷ s) n = withDigit (digitIn base b) (λ d. numberFrom base s (n * base + d))
+numberFrom base (b ∷ s) n = withDigit (digitIn base b) (λ d. withWord (n * base + d) (λ m. numberFrom base s m))
 
 -- 1 to 16 digits, the high one first
 unfoldable pub hexOf : List ℕ → Number
@@ -51,6 +55,6 @@ hexOf s = cond (within 1 16 (length s)) (numberFrom 16 s 0) number.Malformed
 abbrev pub zeroAhead : List ℕ → Bool
 zeroAhead s = ltb 1 (length s) && eqb (getD s 0 0) 48
 
--- 1 to 19 digits, the high one first, without a zero before other digits
+-- one digit or more, the high one first, without a zero before other digits
 unfoldable pub decimalOf : List ℕ → Number
-decimalOf s = cond (within 1 19 (length s)) (cond (zeroAhead s) number.Malformed (numberFrom 10 s 0)) number.Malformed
+decimalOf s = cond (eqb (length s) 0 || zeroAhead s) number.Malformed (numberFrom 10 s 0)

@@ -1,7 +1,5 @@
 // Digits, with the hex ones in lower case, and the numbers that they spell in base 16 and in base 10.
 ghost use mathlib.Core.Path.{_≡_};
-ghost use Prim.Native.Nat.{_^_, _≤_};
-ghost use lib.ListN.{length};
 ghost use Rattle.text.specs.Digits.{digitOf, digitIn, charOf, numberFrom, hexOf, decimalOf};
 use crate::Digit;
 use crate::Number;
@@ -38,9 +36,8 @@ fn digit_in(base: u8, b: u8) -> Digit
     }
 }
 
-// All of s, the high digit first. No number of so many digits is too large.
+// All of s, the high digit first. A number of 2^64 or more is malformed.
 fn number_in(base: u8, s: &[u8]) -> Number
-    requires { ⌜ base ^ length (now s) ≤ 2 ^ 64 ⌝ }
     ensures { λ r. ⌜ r ≡ numberFrom base (now (s .entry)) 0 ⌝ }
 {
     let mut n: u64 = 0;
@@ -49,6 +46,9 @@ fn number_in(base: u8, s: &[u8]) -> Number
         let Digit::Is(d) = digit_in(base, s[i]) else {
             return Number::Malformed;
         };
+        if (u64::MAX - d as u64) / (base as u64) < n {
+            return Number::Malformed;
+        }
         n = n * base as u64 + d as u64;
         i += 1;
     }
@@ -68,14 +68,11 @@ pub fn hex_number(s: &[u8]) -> Number
     number_in(16, s)
 }
 
-// 1 to 19 digits, and no zero stands before other digits.
+// One digit or more, and no zero stands before other digits.
 pub fn decimal_number(s: &[u8]) -> Number
     ensures { λ r. ⌜ r ≡ decimalOf (now (s .entry)) ⌝ }
 {
     if s.len() == 0 {
-        return Number::Malformed;
-    }
-    if 19 < s.len() {
         return Number::Malformed;
     }
     if 1 < s.len() && s[0] == b'0' {
