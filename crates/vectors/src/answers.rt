@@ -5,6 +5,7 @@ use crate::output::put;
 use crate::output::put_byte;
 use crate::output::put_decimal;
 use crate::output::put_hex;
+use cmp::Compared;
 use float::Class;
 use float::Order;
 use text::KIND_NAMES;
@@ -22,11 +23,31 @@ pub enum Answer {
     Test(bool),
     Value(Value),
     Refused(Refusal),
-    // A row, which is put from where it stands.
+    // A row or a record, which is put from where it stands.
     Row,
-    // A row that was refused and did not stay as it was.
+    Record,
+    // Lent memory that did not stay as it was after a refusal.
     Changed,
     Malformed,
+}
+
+pub(crate) fn compared(c: Compared) -> Answer {
+    match c {
+        Compared::Is(o) => Answer::Order(o),
+        Compared::Refused(f) => Answer::Refused(f),
+    }
+}
+
+// What is lent stays as it was when the call is refused.
+pub(crate) fn unless_changed(a: Answer, filled: bool) -> Answer {
+    match a {
+        Answer::Refused(f) => if filled {
+            Answer::Refused(f)
+        } else {
+            Answer::Changed
+        },
+        _ => a,
+    }
 }
 
 pub(crate) fn put_answer(output: &mut Buffer, used: usize, a: Answer) -> usize
@@ -80,7 +101,7 @@ fn order_word(o: Order) -> usize {
 }
 
 // KIND:HEX, with all digits of the kind.
-fn put_value(output: &mut Buffer, used: usize, v: Value) -> usize
+pub(crate) fn put_value(output: &mut Buffer, used: usize, v: Value) -> usize
     requires { ⌜ used ≤ 65536 ⌝ }
     ensures { λ r. ⌜ r ≤ 65536 ⌝ }
 {

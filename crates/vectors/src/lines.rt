@@ -1,8 +1,11 @@
 // What a line asks, by its first word, and the answer to it. A new word stands in the list of the function for its operands, with an arm
-// of its own there. A line whose answer may be a row is lent the three rows.
+// of its own there. A line whose answer may be a row, or the bytes of a key, is lent the three rows.
 ghost use Prim.Native.Nat.{_≤_};
 use crate::answers::Answer;
+use crate::answers::compared;
 use crate::answers::put_answer;
+use crate::key_lines::put_prefix_line;
+use crate::key_lines::put_write_line;
 use crate::operands::OneValue;
 use crate::operands::TwoValues;
 use crate::operands::ValueAndKind;
@@ -10,6 +13,10 @@ use crate::operands::value_and_kind_in;
 use crate::operands::value_in;
 use crate::operands::values_in;
 use crate::output::Buffer;
+use crate::record_lines::put_record_answer;
+use crate::record_lines::read_line;
+use crate::record_lines::record_choice_line;
+use crate::record_lines::record_compare_line;
 use crate::row_lines::put_row_answer;
 use crate::row_lines::row_clamp_line;
 use crate::row_lines::row_line;
@@ -17,7 +24,6 @@ use crate::rows::RowF32;
 use crate::rows::RowU8;
 use crate::rows::RowU16;
 use cmp::Chosen;
-use cmp::Compared;
 use cmp::Tested;
 use convert::Converted;
 use float::class_f32;
@@ -43,7 +49,7 @@ pub(crate) fn put_reply(
 {
     let word = before(b' ', line);
     let rest = after(b' ', line);
-    match word_number(word, b"rowclamp row") {
+    match word_number(word, b"rowclamp row write") {
         0 => put_row_answer(
             output,
             used,
@@ -60,15 +66,31 @@ pub(crate) fn put_reply(
             u16s,
             f32s,
         ),
+        2 => put_write_line(output, used, rest, u8s, u16s, f32s),
+        _ => put_rowless_reply(output, used, word, rest),
+    }
+}
+
+fn put_rowless_reply(output: &mut Buffer, used: usize, word: &[u8], rest: &[u8]) -> usize
+    requires { ⌜ used ≤ 65536 ⌝ }
+    ensures { λ r. ⌜ r ≤ 65536 ⌝ }
+{
+    match word_number(word, b"prefixmin prefixmax rmin rmax read") {
+        0 => put_prefix_line(output, used, rest, false),
+        1 => put_prefix_line(output, used, rest, true),
+        2 => put_record_answer(output, used, record_choice_line(rest, false)),
+        3 => put_record_answer(output, used, record_choice_line(rest, true)),
+        4 => put_record_answer(output, used, read_line(rest)),
         _ => put_answer(output, used, answer_to(word, rest)),
     }
 }
 
 fn answer_to(word: &[u8], rest: &[u8]) -> Answer {
-    match word_number(word, b"class clamp convert") {
+    match word_number(word, b"class clamp convert rcompare") {
         0 => class_line(rest),
         1 => clamp_line(rest),
         2 => convert_line(rest),
+        3 => record_compare_line(rest),
         _ => pair_line(word, rest),
     }
 }
@@ -127,13 +149,6 @@ fn test_of(word: &[u8], a: Value, b: Value) -> Answer {
         _ => return Answer::Malformed,
     };
     tested(t)
-}
-
-fn compared(c: Compared) -> Answer {
-    match c {
-        Compared::Is(o) => Answer::Order(o),
-        Compared::Refused(f) => Answer::Refused(f),
-    }
 }
 
 fn tested(t: Tested) -> Answer {

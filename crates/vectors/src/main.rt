@@ -2,9 +2,14 @@
 // are the fixed list of the oracle and the oracle's answers (oracle/README.md). Input is read in blocks and answers wait in a buffer, so
 // that a run makes few calls of the system.
 mod answers;
+mod bytes;
+mod counts;
+mod key_lines;
 mod lines;
 mod operands;
 mod output;
+mod record_lines;
+mod records;
 mod row_lines;
 mod rows;
 mod samples;

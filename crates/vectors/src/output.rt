@@ -51,6 +51,17 @@ pub(crate) fn put_byte(output: &mut Buffer, used: usize, b: u8) -> usize
     used + 1
 }
 
+// A comma stands before every item of a list but the first.
+pub(crate) fn put_comma(output: &mut Buffer, used: usize, at: usize) -> usize
+    requires { ⌜ used ≤ 65536 ⌝ }
+    ensures { λ r. ⌜ r ≤ 65536 ⌝ }
+{
+    if at == 0 {
+        return used;
+    }
+    put_byte(output, used, b',')
+}
+
 // Writes out the first `used` bytes of output.
 pub(crate) fn flush(output: &[u8], used: usize)
     requires { ⌜ used ≤ length (now output) ⌝ }

@@ -3,6 +3,8 @@ ghost use Prim.Native.Nat.{_≤_};
 ghost use lib.ListN.{length};
 use crate::answers::Answer;
 use crate::answers::put_answer;
+use crate::answers::unless_changed;
+use crate::counts::count_in;
 use crate::operands::OneValue;
 use crate::operands::with_digits;
 use crate::output::Buffer;
@@ -11,7 +13,6 @@ use crate::rows::RowU8;
 use crate::rows::RowU16;
 use crate::rows::fill;
 use crate::rows::is_filled;
-use crate::samples::length_in;
 use crate::samples::put_samples;
 use crate::samples::samples_in;
 use cmp::Range;
@@ -120,7 +121,7 @@ fn samples_line(
     ensures { λ r. ⌜ r .count ≤ 8192 ⌝ }
 {
     let samples = samples_in(from, before(b' ', rest), u8s, u16s, f32s);
-    let length = length_in(after(b' ', rest));
+    let length = count_in(8192, after(b' ', rest));
     if !(samples.well_formed & length.well_formed) {
         return malformed();
     }
@@ -170,18 +171,6 @@ fn rowed(r: Rowed) -> Answer {
     match r {
         Rowed::Done => Answer::Row,
         Rowed::Refused(f) => Answer::Refused(f),
-    }
-}
-
-// A row that is refused stays as it was.
-fn unless_changed(a: Answer, filled: bool) -> Answer {
-    match a {
-        Answer::Refused(f) => if filled {
-            Answer::Refused(f)
-        } else {
-            Answer::Changed
-        },
-        _ => a,
     }
 }
 

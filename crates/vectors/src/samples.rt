@@ -1,31 +1,27 @@
 // Samples as text: the digits of their kind each, joined by commas, and `-` where there are none. They are read into the row of their kind,
-// and put from it. And the number of samples that a row has room for.
+// and put from it.
 ghost use Prim.Native.Nat.{_≤_};
+use crate::counts::Count;
+use crate::counts::counted;
+use crate::counts::uncounted;
 use crate::operands::OneValue;
 use crate::operands::with_digits;
 use crate::output::Buffer;
 use crate::output::put_byte;
+use crate::output::put_comma;
 use crate::output::put_hex;
 use crate::rows::RowF32;
 use crate::rows::RowU8;
 use crate::rows::RowU16;
 use crate::rows::sample_at;
 use crate::rows::store;
-use text::Number;
 use text::after;
 use text::before;
-use text::decimal_number;
 use text::digits_of;
 use text::word_number;
 use value::Kind;
 use value::Value;
 use value::bits_of;
-
-// How many samples a text has, or asks for; none where it is not of the grammar.
-pub struct Count {
-    pub count: usize,
-    pub well_formed: bool,
-}
 
 // Puts the samples of a text at the front of the row of their kind.
 pub(crate) fn samples_in(
@@ -52,7 +48,7 @@ fn list_in(kind: Kind, s: &[u8], u8s: &mut RowU8, u16s: &mut RowU16, f32s: &mut 
     while n < 8192 {
         let first = before(b',', rest);
         let OneValue::Is(v) = with_digits(kind, first) else {
-            return malformed();
+            return uncounted();
         };
         store(v, n, u8s, u16s, f32s);
         n += 1;
@@ -62,39 +58,7 @@ fn list_in(kind: Kind, s: &[u8], u8s: &mut RowU8, u16s: &mut RowU16, f32s: &mut 
         let next = after(b',', rest);
         rest = next;
     }
-    malformed()
-}
-
-// A decimal number of samples that a row has room for.
-pub(crate) fn length_in(s: &[u8]) -> Count
-    ensures { λ r. ⌜ r .count ≤ 8192 ⌝ }
-{
-    let Number::Is(n) = decimal_number(s) else {
-        return malformed();
-    };
-    if 8192 < n {
-        return malformed();
-    }
-    counted(n as usize)
-}
-
-fn counted(count: usize) -> Count
-    requires { ⌜ count ≤ 8192 ⌝ }
-    ensures { λ r. ⌜ r .count ≤ 8192 ⌝ }
-{
-    Count {
-        count,
-        well_formed: true,
-    }
-}
-
-fn malformed() -> Count
-    ensures { λ r. ⌜ r .count ≤ 8192 ⌝ }
-{
-    Count {
-        count: 0,
-        well_formed: false,
-    }
+    uncounted()
 }
 
 // Puts the first `count` samples of the row of a kind.
@@ -129,14 +93,10 @@ pub(crate) fn put_samples(
     used
 }
 
-// A comma stands before every sample but the first.
 fn put_sample(output: &mut Buffer, used: usize, at: usize, v: Value, digits: usize) -> usize
     requires { ⌜ used ≤ 65536 ⌝ }
     ensures { λ r. ⌜ r ≤ 65536 ⌝ }
 {
-    if at == 0 {
-        return put_hex(output, used, bits_of(v), digits);
-    }
-    let parted = put_byte(output, used, b',');
+    let parted = put_comma(output, used, at);
     put_hex(output, parted, bits_of(v), digits)
 }
