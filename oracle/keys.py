@@ -1,5 +1,5 @@
 #!/usr/bin/env python3
-"""Reads keys, by the page on their format alone (docs/RULES.md, Keys).
+"""Reads keys, by the page on their format alone (docs/KEYS.md); the numbers of refusals are those of docs/RULES.md.
 
 keys.py read KINDS HEX         prints the record of a key, or why there is none
 keys.py check CASES ANSWERS    holds the answers to read and write lines against this reader
