@@ -1,5 +1,5 @@
 #!/usr/bin/env python3
-"""Reads keys, by the page on their format alone (docs/KEYS.md); the numbers of refusals are those of docs/RULES.md.
+"""Reads keys in another language: key_reader.py is written from docs/KEYS.md alone, the refusals here are those of docs/RULES.md.
 
 keys.py read KINDS HEX         prints the record of a key, or why there is none
 keys.py check CASES ANSWERS    holds the answers to read and write lines against this reader
@@ -7,12 +7,14 @@ keys.py check CASES ANSWERS    holds the answers to read and write lines against
 Kinds, records and bytes are written as in case lines (oracle/README.md).
 """
 
-import math
 import re
-import struct
 import sys
 
-BYTES = {"u8": 1, "u16": 2, "u32": 4, "u64": 8, "i8": 1, "i16": 2, "i32": 4, "i64": 8, "f32": 4, "f64": 8}
+sys.dont_write_bytecode = True
+
+from key_reader import BYTES, NoKey, has_key, is_minus_zero, key_length
+from key_reader import read as fields_of
+
 MOST_FIELDS = 12
 MOST_ITEMS = 20  # of a record or a shape in a case line
 MOST_BYTES = 512
@@ -31,47 +33,15 @@ class Malformed(Exception):
 # A value is a pair of its kind and its bits, a record a list of values, a shape a list of kinds.
 
 
-def is_nan(kind, bits):
-    if kind[0] != "f":
-        return False
-    code = ">f" if kind == "f32" else ">d"
-    return math.isnan(struct.unpack(code, bits.to_bytes(BYTES[kind], "big"))[0])
-
-
-def is_minus_zero(kind, bits):
-    return kind[0] == "f" and bits == 1 << 8 * BYTES[kind] - 1
-
-
-def field(kind, number):
-    """The bits of the field whose key is a number, or None."""
-    size = 1 << 8 * BYTES[kind]
-    half = size // 2
-    if kind[0] == "u":
-        return number
-    if kind[0] == "i":
-        return (number - half) % size
-    bits = number - half if number >= half else size - 1 - number
-    return None if is_nan(kind, bits) or is_minus_zero(kind, bits) else bits
-
-
-def key_length(shape):
-    return sum(BYTES[kind] for kind in shape)
-
-
 def read(shape, key):
     if not 1 <= len(shape) <= MOST_FIELDS:
         raise Refused(11, 0)
     if len(key) != key_length(shape):
         raise Refused(9, 0)
-    record, at = [], 0
-    for place, kind in enumerate(shape):
-        end = at + BYTES[kind]
-        bits = field(kind, int.from_bytes(key[at:end], "big"))
-        if bits is None:
-            raise Refused(12, place)
-        record.append((kind, bits))
-        at = end
-    return record
+    try:
+        return fields_of(shape, key)
+    except NoKey as field:
+        raise Refused(12, *field.args)
 
 
 def holds_key(record, room, length, buffer):
@@ -89,7 +59,7 @@ def write_refusal(record, room):
         return Refused(11, 0)
     if room < key_length(kind for kind, _ in record):
         return Refused(10, 0)
-    nans = [place for place, (kind, bits) in enumerate(record) if is_nan(kind, bits)]
+    nans = [place for place, (kind, bits) in enumerate(record) if not has_key(kind, bits)]
     return Refused(1, nans[0]) if nans else None
 
 
