@@ -123,7 +123,7 @@ nan-means f means-nan = refl
 nan-means f (means-inf s) = refl
 nan-means f (means-fin s m e a q) = refl
 
-none-pattern : (p e b : ℕ) → isNone (patternOf p e b) ≡ nanOf p e b
+pub none-pattern : (p e b : ℕ) → isNone (patternOf p e b) ≡ nanOf p e b
 unfolding patternOf
 none-pattern p e b = go (nanOf p e b) (eqb (absOf p e b) (infOf p e))
   where

@@ -11,6 +11,7 @@ use lib.Pow.{pow-mono}
 use Rattle.float.specs.Format.{fractionOf, exponentOf, negativeOf, absOf, infiniteOf, nanOf, magOf}
 use Rattle.float.specs.Number.{Exact, notNumber, infinite, finite, isNone, times}
 use Rattle.float.specs.Order.{patternOf}
+use Rattle.float.proofs.Language.{none-pattern}
 use Rattle.value.specs.declared.Kind.{Kind}
 use Rattle.value.specs.declared.Value.{Value}
 use Rattle.value.specs.Kinds.{Form, unsigned, signed, float, formOf, bitsFor, kindOf}
@@ -93,21 +94,12 @@ times-none k notNumber = refl
 times-none k (infinite s) = refl
 times-none k (finite s m) = refl
 
-pattern-none : (p e b : ℕ) → isNone (patternOf p e b) ≡ nanOf p e b
-unfolding patternOf
-pattern-none p e b = go (nanOf p e b) (infiniteOf p e b) (negativeOf p e b) (magOf p (absOf p e b))
-  where
-    go : (t i : Bool) (s : Bool) (m : ℕ) → isNone (cond t notNumber (cond i (infinite s) (finite s m))) ≡ t
-    go true i s m = refl
-    go false true s m = refl
-    go false false s m = refl
-
 content-none : (x : Content) → nanIn (layoutFor (formIn x)) (value.bitsIn x) ≡ isNone (exactIn x)
 unfolding absOf
 content-none (natural k n) = refl
 content-none (integer k (pos n)) = refl
 content-none (integer k (negsuc n)) = refl
-content-none (real f x w) = sym (times-none (stepOf f) (patternOf (fractionOf f) (exponentOf f) (floatBits f x w)) ∙ pattern-none (fractionOf f) (exponentOf f) (floatBits f x w))
+content-none (real f x w) = sym (times-none (stepOf f) (patternOf (fractionOf f) (exponentOf f) (floatBits f x w)) ∙ none-pattern (fractionOf f) (exponentOf f) (floatBits f x w))
 
 -- ---- a value, by its kind and its bits
 

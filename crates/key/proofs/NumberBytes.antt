@@ -9,11 +9,7 @@ use lib.ListN.{length, take, drop, getD, set, length-append, length-drop, length
 use lib.Seq.{length-take-le, take-at, drop-at, drop-drop, take-set-le, set-split, take-suc, getD-drop}
 use Rattle.key.specs.Key.{bigEndian, numberFrom}
 use Rattle.key.specs.Steps.{put}
-
-pub length-number : (w n : ℕ) → length (bigEndian w n) ≡ w
-unfolding bigEndian
-length-number zero n = refl
-length-number (suc w) n = length-append (bigEndian w (n / 256)) (n % 256 ∷ []) ∙ ap (λ (k : ℕ). k + 1) (length-number w (n / 256)) ∙ add-one w
+use Rattle.key.proofs.Bytes.{length-big, number-snoc}
 
 -- ---- laying bytes
 
@@ -66,7 +62,7 @@ module _ (to width n : ℕ) (old : List ℕ) where
   unfolding bigEndian
   lay-last now zero rest some h = absurd (omega arith)
   lay-last now (suc w) rest some h =
-      let e : length (bigEndian w (rest / 256)) ≡ w = length-number w (rest / 256) in
+      let e : length (bigEndian w (rest / 256)) ≡ w = length-big w (rest / 256) in
       rw sub-one (rw e at (put-last to (bigEndian w (rest / 256)) now (rest % 256) (omega arith)))
 
   pub lay-step : (now : List ℕ) (left rest : ℕ) → to + width ≤ length old → 0 < left → Laying now left rest → Laying (set now (to + (left - 1)) (rest % 256)) (left - 1) (rest / 256)
@@ -78,11 +74,6 @@ module _ (to width n : ℕ) (old : List ℕ) where
   lay-end now (suc left) rest h i = absurd (omega arith)
 
 -- ---- reading a number: i bytes from a place on make m
-
-number-snoc : (a : ℕ) (l : List ℕ) (x : ℕ) → numberFrom a (l ++ (x ∷ [])) ≡ numberFrom a l * 256 + x
-unfolding numberFrom
-number-snoc a [] x = refl
-number-snoc a (y ∷ l) x = number-snoc (a * 256 + y) l x
 
 module _ (key : List ℕ) (from width : ℕ) where
   abbrev pub Gathered : ℕ → ℕ → Type 0

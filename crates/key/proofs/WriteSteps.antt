@@ -24,7 +24,8 @@ use Rattle.key.specs.declared.Written.{Written}
 use Rattle.key.specs.declared.Written.the-variants as written
 use Rattle.key.specs.Key.{keyNumber, bytesOf, bigEndian, fieldKey, keyOf, nanThen, writtenOutcome, writeOf, writeExit}
 use Rattle.key.specs.Steps.{put, FirstNan}
-use Rattle.key.proofs.NumberBytes.{length-number, length-put, put-nil, put-put}
+use Rattle.key.proofs.Bytes.{length-big}
+use Rattle.key.proofs.NumberBytes.{length-put, put-nil, put-put}
 
 -- ---- the fields that count
 
@@ -89,7 +90,7 @@ module _ (r : Record) (few : r .count ≤ 12) (twelve : length (r .fields) ≡ 1
     bytes-next =
         ap length key-next
         ∙ length-append (keyOf (take at fs)) (fieldKey v)
-        ∙ ap (λ (n : ℕ). length (keyOf (take at fs)) + n) (length-number (bytesOf (kindOf v)) (keyNumber v))
+        ∙ ap (λ (n : ℕ). length (keyOf (take at fs)) + n) (length-big (bytesOf (kindOf v)) (keyNumber v))
 
   -- ---- the length
 
@@ -154,7 +155,7 @@ module _ (r : Record) (few : r .count ≤ 12) (twelve : length (r .fields) ≡ 1
           omega arith,
           omega (arith, laid .1, own-width, bytes-next at d h),
           z ∙ rw (e, own-width, laid .1, laid .2) (lay-next at d h),
-          ap length z ∙ length-put to (bigEndian w n) now (rw (length-number w n) laid-room) ∙ laid .3,
+          ap length z ∙ length-put to (bigEndian w n) now (rw (length-big w n) laid-room) ∙ laid .3,
           omega (arith, laid .4, w-is .1),
         )
 
