@@ -17,18 +17,10 @@ use Rattle.float.specs.Order as float
 use Rattle.value.specs.declared.Value.{Value}
 use Rattle.value.specs.declared.Value.the-variants.{U8, U16, U32, U64, I8, I16, I32, I64, F32, F64}
 use Rattle.value.specs.Kinds.{kindOf, kindNumber}
+use Rattle.value.proofs.Units.{unit-pos, step-pos}
 use Rattle.value.proofs.TwosComplement.{wider, recast, recast-back}
 use Rattle.float.proofs.Comparing.{times-order}
 use Rattle.value.specs.Meaning.{wholeOf, unit, stepOf, exactOf, numberOf, positionOf}
-
-unit-pos : 0 < unit
-unfolding unit
-unit-pos = pow-pos 1074
-
-step-pos : (f : Format) → 0 < stepOf f
-unfolding stepOf
-step-pos binary32 = pow-pos 925
-step-pos binary64 = lit< tt
 
 whole-order : (y z : ℤ) → orderOf (float-number.numberOf (wholeOf y)) (float-number.numberOf (wholeOf z)) ≡ orderZ y z
 whole-order (pos m) (pos n) = refl

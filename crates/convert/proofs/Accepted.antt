@@ -16,11 +16,12 @@ use Rattle.float.specs.ClassMeaning.{largestOf}
 use Rattle.float.specs.Number.{Exact, notNumber, infinite, finite, isNone, times, none, number, infinityOf, numberOf, signedOf}
 use Rattle.float.specs.Order.{patternOf}
 use Rattle.float.proofs.Naturals.{three-ways}
-use Rattle.float.proofs.Magnitude.{mag-grows, mag-largest}
+use Rattle.float.proofs.Magnitude.{abs-signed, mag-grows, mag-largest}
 use Rattle.float.proofs.Comparing.{pattern-nan, pattern-infinite, pattern-finite}
 use Rattle.value.specs.Kinds.{Form, unsigned, signed, float}
 use Rattle.value.specs.Meaning.{wholeOf, unit, stepOf}
 use Rattle.value.specs.Outcome.{gives}
+use Rattle.value.proofs.Units.{unit-pos}
 use Rattle.value.proofs.Outcomes.{refuse-passes}
 use Rattle.convert.specs.Convert.{rulesOf, isInfinite, isInteger, hasFraction, outside, outOfRange, notHeld, heldIn, patternFor, signFor, magnitudeFor, absFor, integerFor}
 use Rattle.convert.proofs.Encode.{held-of}
@@ -58,11 +59,6 @@ abbrev isNegative : ℤ → Bool
 isNegative (pos n) = false
 isNegative (negsuc n) = true
 
-abs-signed : (s : Bool) (m : ℕ) → natAbs (signedOf s m) ≡ m
-abs-signed false m = refl
-abs-signed true zero = refl
-abs-signed true (suc m) = refl
-
 signed-mag : (s : Bool) (m : ℕ) (z : ℤ) → number z ≡ numberOf (finite s m) → natAbs z ≡ m
 signed-mag s m z h = let q : z ≡ signedOf s m = cc in ap natAbs q ∙ abs-signed s m
 
@@ -75,10 +71,6 @@ whole-number : (s : Bool) (n u : ℕ) → numberOf (times u (wholeOf (signedOf s
 whole-number false n u = refl
 whole-number true zero u = rw (zero-mul u) refl
 whole-number true (suc n) u = refl
-
-unit-pos : 0 < unit
-unfolding unit
-unit-pos = pow-pos 1074
 
 -- without a fraction, the whole part has the magnitude
 whole-part : (m : ℕ) → (not (eqb (m % unit) 0) && true) ≡ false → m / unit * unit ≡ m

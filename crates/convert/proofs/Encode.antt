@@ -13,6 +13,7 @@ use Rattle.float.specs.Format.{fractionOf, magAt, magOf}
 use Rattle.float.proofs.Magnitude.{mag-small}
 use Rattle.float.proofs.Naturals.{lt-or-ge}
 use Rattle.value.specs.Meaning.{stepOf}
+use Rattle.value.proofs.Units.{step-pos}
 use Rattle.convert.proofs.Binary.{size-is}
 use Rattle.convert.specs.Convert.{dropOf, encodeAt, encodeOf, heldIn}
 
@@ -103,11 +104,6 @@ mag-encode p n z = elim (lt-or-ge (n / 2 ^ dropOf p n) (2 ^ p)) [
 ]
 
 -- ---- what a format holds
-
-pub step-pos : (f : Format) → 0 < stepOf f
-unfolding stepOf
-step-pos binary32 = pow-pos 925
-step-pos binary64 = omega arith
 
 -- what some abs has is encoded as that abs
 pub encode-held : (f : Format) (x : ℕ) → encodeOf f (magOf (fractionOf f) x * stepOf f) ≡ x

@@ -16,8 +16,9 @@ use Rattle.float.proofs.Naturals.{lt-or-ge}
 use Rattle.float.proofs.Magnitude.{abs-clear, abs-set, mag-rises, mag-largest}
 use Rattle.float.proofs.Comparing.{pattern-infinite, pattern-finite}
 use Rattle.value.specs.Meaning.{stepOf}
+use Rattle.value.proofs.Units.{step-pos}
 use Rattle.convert.specs.Convert.{encodeOf, heldIn, withSign}
-use Rattle.convert.proofs.Encode.{step-pos, held-has}
+use Rattle.convert.proofs.Encode.{held-has}
 
 -- ---- the sign bit
 

@@ -14,6 +14,7 @@ use Rattle.float.specs.Number.{Exact, notNumber, infinite, finite, isNone, time
 use Rattle.float.specs.Number as float-number
 use Rattle.float.specs.Order.{patternOf}
 use Rattle.float.proofs.Naturals.{lt-or-ge, three-ways}
+use Rattle.float.proofs.Tests.{clash}
 use Rattle.float.proofs.Magnitude.{abs-clear, abs-set}
 use Rattle.float.proofs.Comparing.{pattern-nan, pattern-infinite, pattern-finite}
 use Rattle.value.specs.declared.Kind.{Kind}
@@ -22,6 +23,7 @@ use Rattle.value.specs.declared.Value.{Value}
 use Rattle.value.specs.Kinds.{Form, unsigned, signed, float, formOf, kindOf, kindNumber}
 use Rattle.value.specs.Meaning.{wholeOf, unit, stepOf, exactOf, numberOf, bitsOf, twosOf, fromTwos, f32Value, f64Value, valueOf}
 use Rattle.value.specs.Outcome.{gives}
+use Rattle.value.proofs.Units.{unit-pos}
 use Rattle.value.proofs.MadeValues.{bits-made, value-kind}
 use Rattle.convert.specs.Convert.{isInteger, withSign, magnitudeFor, integerFor, patternFor, madeIn, convertOf}
 use Rattle.convert.proofs.Accepted.{exactFor}
@@ -29,9 +31,6 @@ use Rattle.convert.proofs.Encode.{encode-held}
 use Rattle.convert.proofs.Exactly.{none-is, into-accepts, made-exact, other-kind, sound, complete, kept}
 
 -- ---- a number with a sign of its zero is one sign and one magnitude
-
-clash : {A : Type 0} → _≡_ {A = ℕ} 0 1 → A
-clash q = absurd (omega arith)
 
 minus-minus : (m n : ℕ) → (finite true m ≡ finite true 0 → ⊥) → (finite true n ≡ finite true 0 → ⊥) → float-number.numberOf (finite true m) ≡ float-number.numberOf (finite true n) → m ≡ n
 minus-minus zero n d e h = absurd (d refl)
@@ -64,10 +63,6 @@ number-exact (finite false m) (finite true n) d e h = absurd (minus-plus n m e (
 number-exact (finite false m) (finite false n) d e h = cc
 
 -- ---- a form's value made again of what it stands for
-
-unit-pos : 0 < unit
-unfolding unit
-unit-pos = pow-pos 1074
 
 -- an integer is never minus zero
 pub whole-signless : (z : ℤ) → times unit (wholeOf z) ≡ finite true 0 → ⊥

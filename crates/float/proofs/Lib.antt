@@ -1,4 +1,5 @@
 pub mod Naturals
+pub mod Tests
 pub mod Magnitude
 pub mod Machine
 pub mod Place

@@ -1,13 +1,14 @@
 -- The sign, abs and the scaled magnitude of a pattern, over (p, e). The scaled magnitude strictly rises with abs:
 -- within one exponent the fraction decides, and a higher exponent at least doubles what the lower one can reach.
-use mathlib.Core.Path.{_≡_, _∙_, ap, subst, subst⁻¹}
+use mathlib.Core.Path.{_≡_, refl, _∙_, ap, subst, subst⁻¹}
+use mathlib.Core.Bool.{Bool, true, false}
 use mathlib.Core.Logic.{inl, inr}
 use Prim.Native.Nat.{ℕ, zero, suc, _+_, _-_, _*_, _/_, _%_, _^_, _≤_, _<_}
 use native.Mathlib.Nat.{eq-or-lt-of-le, le-trans, lt-of-lt-of-le, mul-lt-mul-of-pos-right, mul-le-mul-right, mul-le-mul-left, mul-assoc, mul-comm, pow-suc, pow-zero, mul-one, mod-lt, le-of-lt, le-of-eq, zero-div, zero-mod, div-eq-of-lt, mod-eq-of-lt, div-self, mod-self, suc-mul, add-zero, add-comm}
 use native.Mathlib.Omega.{arith}
 use borrow.Author.Tests.{le-leb, lt-leb}
 use lib.Pow.{pow-pos, pow-mono, shr-mono, split, high, low, high-ones}
-use lib.IntN.{pos, negℤ}
+use lib.IntN.{pos, negℤ, natAbs}
 use Rattle.float.specs.Number.{signedOf}
 use Rattle.float.specs.Format.{infOf, negativeOf, absOf, magAt, magOf}
 use Rattle.float.specs.ClassMeaning.{largestOf}
@@ -38,6 +39,11 @@ signed-clear p e b q h = simp (lt-leb _ _ h) (ap pos q)
 
 pub signed-set : (p e b : ℕ) {x : ℕ} → x ≡ absOf p e b → 2 ^ (p + e) ≤ b → negℤ (pos x) ≡ signedOf (negativeOf p e b) (absOf p e b)
 signed-set p e b q h = simp (le-leb _ _ h) (ap (λ (n : ℕ). negℤ (pos n)) q)
+
+pub abs-signed : (s : Bool) (m : ℕ) → natAbs (signedOf s m) ≡ m
+abs-signed false m = refl
+abs-signed true zero = refl
+abs-signed true (suc m) = refl
 
 -- ---- the scaled magnitude
 

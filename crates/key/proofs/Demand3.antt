@@ -11,6 +11,7 @@ use lib.ListN.{length, take, drop, getD, replicate, length-append, length-replic
 use lib.Seq.{take-at, length-take-le}
 use Rattle.float.specs.declared.Order.the-variants.{Equal}
 use Rattle.float.specs.Order.{orderN}
+use Rattle.float.proofs.Tests.{neither, clash}
 use Rattle.value.specs.declared.Kind.{Kind}
 use Rattle.value.specs.declared.Value.the-variants.{U8}
 use Rattle.value.specs.Kinds.{kindOf, kindNumber}
@@ -24,7 +25,7 @@ use Rattle.record.specs.Record.{fieldFor, fieldsOf, badCount, lexicalOf, shapes
 use Rattle.key.specs.Key.{keyOf, nanThen, writeOf, bufferAfter, writeExit, bytesIn, readFields, readOf}
 use Rattle.key.specs.Prefix.{bytesOrder}
 use Rattle.key.specs.Theorem.{Bytes, AllKeyed, none, more, normalRecord, recordKey, Usable, OfShape}
-use Rattle.key.proofs.Passing.{clash, neither, mapped-gives}
+use Rattle.key.proofs.Passing.{mapped-gives}
 use Rattle.key.proofs.Bytes.{first-difference}
 use Rattle.key.proofs.FieldLists.{keys-order, same-keys, key-length, key-bytes, read-written, FieldsFor, written-read}
 

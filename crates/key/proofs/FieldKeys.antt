@@ -11,6 +11,7 @@ use lib.Ieee.Bits.{ofBits-fits}
 use Rattle.float.specs.Number.{isNone, times}
 use Rattle.float.specs.Number as float-number
 use Rattle.float.specs.Order.{orderN, orderOf}
+use Rattle.float.proofs.Tests.{clash}
 use Rattle.value.specs.declared.Kind.{Kind}
 use Rattle.value.specs.declared.Kind.the-variants as kind
 use Rattle.value.specs.declared.Value.{Value}
@@ -21,7 +22,6 @@ use Rattle.cmp.specs.Choose.{valueOrder}
 use Rattle.cmp.proofs.Numbers.{integers-order}
 use Rattle.key.specs.Key.{keyIn, keyNumber, bytesOf, bitsFrom, notCanonical}
 use Rattle.key.specs.Theorem.{InRange, Keyed, normal}
-use Rattle.key.proofs.Passing.{clash}
 use Rattle.key.proofs.SignedKeys.{shifted-order, shifted-below, shifted-read, read-shifted}
 use Rattle.key.proofs.FloatFields.{float-below, float-canonical, float-read, word-read, float-order, made-some, made-key}
 

@@ -10,6 +10,7 @@ use lib.ListN.{length, take, drop, length-append, length-drop, take-append-drop}
 use lib.Seq.{take-at, drop-at, length-take-le}
 use Rattle.float.specs.declared.Order.{Order}
 use Rattle.float.specs.declared.Order.the-variants.{Equal}
+use Rattle.float.proofs.Tests.{clash}
 use Rattle.value.specs.declared.Kind.{Kind}
 use Rattle.value.specs.declared.Value.{Value}
 use Rattle.value.specs.Kinds.{formOf, kindOf}
@@ -23,7 +24,7 @@ use Rattle.record.specs.Record.{fieldFor, orElse, lexicalOf, kindsOf}
 use Rattle.key.specs.Key.{keyNumber, bytesOf, bigEndian, fieldKey, keyOf, numberFrom, bitsFrom, notCanonical, bytesIn, readFields}
 use Rattle.key.specs.Prefix.{bytesOrder}
 use Rattle.key.specs.Theorem.{Bytes, Keyed, AllKeyed, none, more, normalFields}
-use Rattle.key.proofs.Passing.{clash, mapped-gives}
+use Rattle.key.proofs.Passing.{mapped-gives}
 use Rattle.key.proofs.Bytes.{bytes-append, bytes-big, bytes-take, bytes-drop, length-big, number-big, big-number, number-below, order-append, order-big, equal-bytes, bytes-equal}
 use Rattle.key.proofs.FieldKeys.{field-order, field-read, field-write}
 

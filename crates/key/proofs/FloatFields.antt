@@ -14,13 +14,13 @@ use Rattle.float.specs.Order.{orderN, orderOf, patternOf}
 use Rattle.float.specs.Number as float-number
 use Rattle.float.proofs.Comparing.{pattern-nan}
 use Rattle.float.proofs.Language.{nan-pattern, nan-float}
+use Rattle.float.proofs.Tests.{neither}
 use Rattle.value.specs.Kinds.{float}
 use Rattle.value.specs.Meaning.{Content, real, stepOf, exactIn, floatBits, nanWord, wordFor}
 use Rattle.value.proofs.FloatBits.{bits-number, bits-nan, word-nan, word-other, word-none, bits-pattern}
 use Rattle.cmp.proofs.Numbers.{patterns-order}
 use Rattle.key.specs.Key.{floatKey, patternFrom, keyIn, notCanonical}
 use Rattle.key.specs.Theorem.{plusZero}
-use Rattle.key.proofs.Passing.{neither}
 use Rattle.key.proofs.FloatKeys.{key-below, key-order, from-below, from-key, key-canonical, key-from}
 
 -- ---- the two formats

@@ -13,7 +13,7 @@ use Rattle.float.specs.Format.{signOf, infOf, negativeOf, absOf, nanOf}
 use Rattle.float.specs.Number.{signedOf}
 use Rattle.float.specs.Order.{orderN, compareOf}
 use Rattle.float.proofs.Naturals.{lt-or-ge, three-ways}
-use Rattle.float.proofs.Magnitude.{abs-clear, abs-set, abs-lt}
+use Rattle.float.proofs.Magnitude.{abs-clear, abs-set, abs-lt, abs-signed}
 use Rattle.float.proofs.Comparing.{compare-signed}
 use Rattle.key.specs.Key.{floatKey, patternFrom}
 use Rattle.key.proofs.SignedKeys.{spread, spread-order}
@@ -62,13 +62,8 @@ module _ (p e : ℕ) where
         rw (key-set b l, le-leb _ _ g, abs-set p e b g, spread-minus (signOf p e) (b - signOf p e) (omega arith)) (omega arith)
   ]
 
-  sign-abs : (s : Bool) (m : ℕ) → natAbs (signedOf s m) ≡ m
-  sign-abs true zero = refl
-  sign-abs true (suc m) = refl
-  sign-abs false m = refl
-
   reaches : (b : ℕ) → b < 2 * signOf p e → natAbs (signedAbs b) + 1 ≤ signOf p e
-  reaches b h = rw (sign-abs (negativeOf p e b) (absOf p e b)) (omega (arith, abs-lt p e b h))
+  reaches b h = rw (abs-signed (negativeOf p e b) (absOf p e b)) (omega (arith, abs-lt p e b h))
 
   -- two patterns that are no NaN
   pub key-order : (a b : ℕ) → 0 < infOf p e → a < 2 * signOf p e → b < 2 * signOf p e → nanOf p e a ≡ false → nanOf p e b ≡ false

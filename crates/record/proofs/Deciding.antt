@@ -6,6 +6,7 @@ use native.Mathlib.Nat.{zero-add}
 use lib.Dec.{eqb, ltb}
 use borrow.Author.Tests.{ltb-false}
 use Rattle.float.specs.declared.Order.{Order}
+use Rattle.float.proofs.Tests.{neither}
 use Rattle.value.specs.Outcome.{Outcome, gives, refuses, refuseIf, refusalOf, andThen}
 use Rattle.value.specs.declared.Refusal.{Refusal}
 use Rattle.cmp.specs.Choose.{chosenBy}
@@ -14,7 +15,6 @@ use Rattle.record.specs.declared.comparisons.Decision.{Decision}
 use Rattle.record.specs.declared.comparisons.Decided.{Decided}
 use Rattle.record.specs.declared.comparisons.Decided.the-variants as decided
 use Rattle.record.specs.Record.{fieldsOf, badCount, shapesDiffer, lexicalOf, decidingOf, likeThen, compareOf, minOf, maxOf}
-use Rattle.record.proofs.Steps.{or-false}
 use Rattle.record.specs.Decide.{decidedOutcome, decisionFrom, decideOf, chosenFrom}
 
 -- ---- after a decision
@@ -29,7 +29,7 @@ module _ {B : Type 0} {d : Decided} where
 -- ---- the decision by the tests of rules 11 and 7
 
 pub good-count : (n : ℕ) → badCount n ≡ false → n ≤ 12
-good-count n h = ltb-false 12 n (or-false (eqb n 0) (ltb 12 n) h .1)
+good-count n h = ltb-false 12 n (neither (eqb n 0) (ltb 12 n) h .1)
 
 module _ (a b : Record) {bad : Bool} (u : bad ≡ (badCount (a .count) || badCount (b .count))) where
   pub decide-bad : bad ≡ true → refuses 11 0 ≡ decideOf a b
@@ -39,7 +39,7 @@ module _ (a b : Record) {bad : Bool} (u : bad ≡ (badCount (a .count) || badCou
   module _ (h : bad ≡ false) where
     pub good-counts : (a .count ≤ 12) × (b .count ≤ 12)
     good-counts =
-        let p = or-false (badCount (a .count)) (badCount (b .count)) (sym u ∙ h) in
+        let p = neither (badCount (a .count)) (badCount (b .count)) (sym u ∙ h) in
         (good-count (a .count) (p .0), good-count (b .count) (p .1))
 
     pub decide-differ : {differ : Bool} → differ ≡ shapesDiffer (fieldsOf a) (fieldsOf b) → differ ≡ true → refuses 7 0 ≡ decideOf a b

@@ -3,6 +3,7 @@ use mathlib.Core.Path.{_≡_, refl}
 use mathlib.Core.Bool.{false, _||_}
 use mathlib.Core.List.{List, [], _∷_}
 use Rattle.float.specs.declared.Order.{Order}
+use Rattle.float.proofs.Tests.{neither}
 use Rattle.value.specs.Kinds.{kindOf}
 use Rattle.value.specs.Outcome.{gives}
 use Rattle.value.proofs.KindNumbers.{number-injective}
@@ -12,7 +13,6 @@ use Rattle.cmp.proofs.KindTests.{one-kind, alike}
 use Rattle.record.specs.declared.Field.{Field}
 use Rattle.record.specs.declared.Record.{Record}
 use Rattle.record.specs.Record.{fieldsOf, kindsOf, badCount, shapesDiffer, lexicalOf, compareOf}
-use Rattle.record.proofs.Steps.{or-false}
 use Rattle.record.proofs.OneKind.{given-same}
 
 -- ---- fields of one shape have the same kinds
@@ -23,7 +23,7 @@ shape-kinds [] [] h = refl
 shape-kinds [] (y ∷ ys) h = cc
 shape-kinds (x ∷ xs) [] h = cc
 shape-kinds (x ∷ xs) (y ∷ ys) h =
-    let p = or-false (kindsDiffer (x .value) (y .value)) (shapesDiffer xs ys) h in
+    let p = neither (kindsDiffer (x .value) (y .value)) (shapesDiffer xs ys) h in
     let k : kindOf (x .value) ≡ kindOf (y .value) = number-injective _ _ (one-kind (x .value) (y .value) (p .0)) in
     cc (k, shape-kinds xs ys (p .1))
 
@@ -46,7 +46,7 @@ module _ (a b : Record) where
   compared-records o h =
       let past-11 = refuse-passes (badCount (a .count) || badCount (b .count)) 11 0 _ o h in
       let past-7 = refuse-passes (shapesDiffer (fieldsOf a) (fieldsOf b)) 7 0 (gives (lexicalOf (fieldsOf a) (fieldsOf b))) o (past-11 .1) in
-      let counts = or-false (badCount (a .count)) (badCount (b .count)) (past-11 .0) in
+      let counts = neither (badCount (a .count)) (badCount (b .count)) (past-11 .0) in
       (counts .0, counts .1, shape-kinds (fieldsOf a) (fieldsOf b) (past-7 .0), given-same (past-7 .1))
 
   pub records-compared : (o : Order) → badCount (a .count) ≡ false → badCount (b .count) ≡ false → kindsOf (fieldsOf a) ≡ kindsOf (fieldsOf b)

@@ -8,19 +8,20 @@ use native.Mathlib.Nat.{sub-zero}
 use lib.ListN.{length}
 use lib.Seq.{length-take-le}
 use borrow.Author.Tests.{eq-eqb, ne-eqb}
+use Rattle.float.proofs.Tests.{neither}
 use Rattle.value.specs.Kinds.{kindOf, kindNumber}
 use Rattle.cmp.specs.Compare.{kindsDiffer}
 use Rattle.record.specs.declared.Field.{Field}
 use Rattle.record.specs.declared.Record.{Record}
 use Rattle.record.specs.Record.{fieldsOf, valueAt, shapesDiffer}
-use Rattle.record.proofs.Steps.{Twelve, twelve, leftIn, or-false, shapes-step}
+use Rattle.record.proofs.Steps.{Twelve, twelve, leftIn, shapes-step}
 
 same-lengths : (xs ys : List Field) → shapesDiffer xs ys ≡ false → length xs ≡ length ys
 unfolding shapesDiffer
 same-lengths [] [] h = refl
 same-lengths [] (y ∷ ys) h = cc
 same-lengths (x ∷ xs) [] h = cc
-same-lengths (x ∷ xs) (y ∷ ys) h = ap suc (same-lengths xs ys (or-false (kindsDiffer (x .value) (y .value)) _ h .1))
+same-lengths (x ∷ xs) (y ∷ ys) h = ap suc (same-lengths xs ys (neither (kindsDiffer (x .value) (y .value)) _ h .1))
 
 -- ---- the counts of two records
 

@@ -11,6 +11,7 @@ use lib.Seq.{drop-cons}
 use Rattle.float.specs.declared.Order.{Order}
 use Rattle.float.specs.declared.Order.the-variants.{Less, Equal, Greater, Unordered}
 use Rattle.float.specs.Order.{isEqual}
+use Rattle.float.proofs.Tests.{neither}
 use Rattle.value.specs.declared.Value.the-variants.{U8}
 use Rattle.cmp.specs.Compare.{kindsDiffer}
 use Rattle.cmp.specs.Choose.{valueOrder}
@@ -43,10 +44,6 @@ stops at Equal p h = cc
 stops at Greater p h = rw (add-zero at)
 stops at Unordered p h = rw (add-zero at)
 
-pub or-false : (x y : Bool) → (x || y) ≡ false → (x ≡ false) × (y ≡ false)
-or-false true y h = (h, cc)
-or-false false y h = (refl, h)
-
 -- with no field left all were Equal
 pub decided-equal : (a b : Record) (at left : ℕ) → left ≡ 0 → _≡_ {A = Decision} (record { order = Equal; at = at }) (decisionFrom at (leftIn a at left) (leftIn b at left))
 unfolding lexicalOf decidingOf
@@ -63,7 +60,7 @@ module _ (a b : Record) (at left : ℕ) (ta : Twelve a) (tb : Twelve b) (some : 
 
   one-shape : shapesDiffer (leftIn a at left) (leftIn b at left) ≡ false
       → (kindsDiffer (valueAt (a .fields) at) (valueAt (b .fields) at) ≡ false) × (shapesDiffer (leftIn a (at + 1) (left - 1)) (leftIn b (at + 1) (left - 1)) ≡ false)
-  one-shape s = or-false (kindsDiffer (valueAt (a .fields) at) (valueAt (b .fields) at)) _ (sym shapes-step ∙ s)
+  one-shape s = neither (kindsDiffer (valueAt (a .fields) at) (valueAt (b .fields) at)) _ (sym shapes-step ∙ s)
 
   pub kinds-here : shapesDiffer (leftIn a at left) (leftIn b at left) ≡ false → kindsDiffer (valueAt (a .fields) at) (valueAt (b .fields) at) ≡ false
   kinds-here s = one-shape s .0

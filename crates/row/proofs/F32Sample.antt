@@ -10,8 +10,8 @@ use Rattle.float.specs.Order.{patternOf}
 use Rattle.value.specs.declared.Kind.the-variants as kind
 use Rattle.value.specs.Meaning.{bitsOf, unit, stepOf, floatBits}
 use Rattle.value.specs.Outcome.{gives, refuses, mapped}
+use Rattle.value.proofs.Units.{step-pos}
 use Rattle.convert.specs.Convert.{outside, intoOf, convertOf}
-use Rattle.convert.proofs.Encode.{step-pos}
 use Rattle.row.specs.Convert.{f32ToU16}
 use Rattle.row.proofs.FloatValue.{steps-units}
 use Rattle.row.proofs.IntoUnsigned.{into-fraction, into-outside, into-inside, u16-made}

@@ -8,6 +8,7 @@ use native.Mathlib.Numerals.{add-one}
 use native.Mathlib.Omega.{arith}
 use lib.ListN.{length, getD, take, drop, drop-of-length-le, length-drop}
 use lib.Seq.{take-all, drop-drop}
+use Rattle.float.proofs.Tests.{neither}
 use Rattle.row.specs.Row.{first, any}
 
 module _ {A : Type 0} (test : A → Bool) where
@@ -85,17 +86,13 @@ module _ {A : Type 0} (test : A → Bool) where
 
   -- ---- a block
 
-  or-false : (a b : Bool) → (a || b) ≡ false → (a ≡ false) × (b ≡ false)
-  or-false true b h = absurd (true≢false h)
-  or-false false b h = (refl, h)
-
   -- a block without such a sample is passed whole
   first-skip : (m : ℕ) (s : List A) → m ≤ length s → any test (take m s) ≡ false → first test s ≡ m + first test (drop m s)
   unfolding first any
   first-skip zero s h g = sym (zero-add (first test s))
   first-skip (suc m) [] h g = absurd (not-suc-le-zero h)
   first-skip (suc m) (x ∷ xs) h g =
-      let o = or-false (test x) (any test (take m xs)) g in
+      let o = neither (test x) (any test (take m xs)) g in
       let r = first-skip m xs (le-of-suc-le-suc h) (o .1) in
       simp (o .0) (omega arith)
 

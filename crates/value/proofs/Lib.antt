@@ -4,3 +4,4 @@ pub mod FloatBits
 pub mod MadeValues
 pub mod Outcomes
 pub mod Forms
+pub mod Units

@@ -1,0 +1,15 @@
+-- The common unit and the steps of the float formats are not 0.
+use Prim.Native.Nat.{_<_}
+use native.Mathlib.Omega.{arith}
+use lib.Pow.{pow-pos}
+use lib.Ieee.{Format, binary32, binary64}
+use Rattle.value.specs.Meaning.{unit, stepOf}
+
+pub unit-pos : 0 < unit
+unfolding unit
+unit-pos = pow-pos 1074
+
+pub step-pos : (f : Format) → 0 < stepOf f
+unfolding stepOf
+step-pos binary32 = pow-pos 925
+step-pos binary64 = omega arith
