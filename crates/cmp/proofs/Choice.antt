@@ -2,11 +2,11 @@
 use mathlib.Core.Path.{_≡_, refl, sym, _∙_, ap}
 use mathlib.Core.Bool.{Bool, true, false, not, _||_, true≢false}
 use Prim.Native.Nat.{ℕ}
-use native.Mathlib.Omega.{arith}
-use borrow.Author.Tests.{eq-eqb}
+use borrow.Author.Tests.{eq-eqb, not-true}
 use Rattle.float.specs.declared.Order.{Order}
 use Rattle.float.specs.declared.Order.the-variants.{Greater, Unordered}
 use Rattle.float.specs.Order.{isLess, isLessOrEqual, isGreater, isUnordered}
+use Rattle.float.proofs.Tests.{neither, clash}
 use Rattle.value.specs.declared.Value.{Value}
 use Rattle.value.specs.declared.Refusal.{Refusal}
 use Rattle.value.specs.Outcome.{Outcome, gives, refuses, refuseIf, refusalOf, andThen}
@@ -27,11 +27,6 @@ module _ {B : Type 0} {c : Compared} where
 
 -- ---- the choice
 
-neither : (x y : Bool) → not (x || y) ≡ true → (x ≡ false) × (y ≡ false)
-neither true y h = (sym h, absurd (true≢false (sym h)))
-neither false true h = (refl, sym h)
-neither false false h = (refl, refl)
-
 module _ {A : Type 0} (place : ℕ) (one other : A) (o : Order) where
   pub chosen-unordered : o ≡ Unordered → refuses 8 place ≡ chosenBy place one other o
   unfolding chosenBy
@@ -43,7 +38,7 @@ module _ {A : Type 0} (place : ℕ) (one other : A) (o : Order) where
 
   pub chosen-other : not (isGreater o || isUnordered o) ≡ true → gives one ≡ chosenBy place one other o
   unfolding chosenBy
-  chosen-other h = let n = neither (isGreater o) (isUnordered o) h in simp (n .0, n .1)
+  chosen-other h = let n = neither (isGreater o) (isUnordered o) (not-true _ h) in simp (n .0, n .1)
 
 -- a comparison, and then what follows, is rule 7 and then what follows
 compare-then : {B : Type 0} (next : Order → Outcome B) (a b : Value) → andThen (compareOf a b) next ≡ refuseIf (kindsDiffer a b) 7 0 (next (valueOrder a b))
@@ -94,7 +89,7 @@ unfolding compareOf
 given-kinds a b {o} h = go (kindsDiffer a b) refl h
   where
     go : (t : Bool) → kindsDiffer a b ≡ t → gives o ≡ refuseIf t 7 0 (gives (valueOrder a b)) → (kindsDiffer a b ≡ false) × (o ≡ valueOrder a b)
-    go true e q = absurd (let z : _≡_ {A = ℕ} 0 1 = cc in omega arith)
+    go true e q = clash cc
     go false e q = (e, cc)
 
 refused-kinds : (a b : Value) (f : Refusal) → refusalOf f ≡ compareOf a b → (kindsDiffer a b ≡ true) × (f .number ≡ 7) × (f .place ≡ 0)
@@ -103,7 +98,7 @@ refused-kinds a b f h = go (kindsDiffer a b) refl h
   where
     go : (t : Bool) → kindsDiffer a b ≡ t → refusalOf f ≡ refuseIf t 7 0 (gives (valueOrder a b)) → (kindsDiffer a b ≡ true) × (f .number ≡ 7) × (f .place ≡ 0)
     go true e q = (e, cc, cc)
-    go false e q = absurd (let z : _≡_ {A = ℕ} 0 1 = cc in omega arith)
+    go false e q = clash cc
 
 same-kinds : (v a b : Value) → kindsDiffer v a ≡ false → kindsDiffer v b ≡ false → kindsDiffer a b ≡ false
 same-kinds v a b h k = ap not (eq-eqb _ _ (sym (one-kind v a h) ∙ one-kind v b k))

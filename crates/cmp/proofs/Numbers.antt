@@ -1,10 +1,9 @@
 -- Two values of one kind by the numbers that they stand for: the common unit changes no order.
 use mathlib.Core.Path.{_≡_, refl, sym, _∙_}
-use Prim.Native.Nat.{ℕ, _^_, _≤_, _<_}
-use lib.Dec.{T, ltb, lit<}
-use lib.Pow.{pow-pos}
+use Prim.Native.Nat.{ℕ, _^_, _≤_}
+use lib.Dec.{T, ltb}
 use lib.IntN.{ℤ, pos, negsuc}
-use lib.Ieee.{Format, binary32, binary64}
+use lib.Ieee.{Format}
 use mir.Syntax.{Width, w64}
 use mir.Val.{SFits, hbits, toZ, ofZ}
 use mir.ValLaws.{toZ-ofZ}

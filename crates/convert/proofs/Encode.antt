@@ -7,7 +7,7 @@ use native.Mathlib.Nat.{lt-of-lt-of-le, le-div-iff-mul-le, div-lt-iff-lt-mul, mu
 use native.Mathlib.Omega.{arith}
 use borrow.Author.Tests.{eq-eqb, eqb-true}
 use lib.Pow.{pow-pos, pow-add, pow-mono, high, low}
-use lib.Ieee.{Format, binary32, binary64, size}
+use lib.Ieee.{Format, size}
 use lib.Ieee.Digits.{size-lt, size-le, size-reaches}
 use Rattle.float.specs.Format.{fractionOf, magAt, magOf}
 use Rattle.float.proofs.Magnitude.{mag-small}

@@ -2,12 +2,11 @@
 use mathlib.Core.Path.{_≡_, refl, sym, _∙_, ap}
 use mathlib.Core.Logic.{_⊎_, inl, inr}
 use mathlib.Core.Bool.{true, false, true≢false}
-use Prim.Native.Nat.{ℕ, zero, suc, _-_, _*_, _%_, _^_, _<_}
+use Prim.Native.Nat.{ℕ, zero, suc, _-_, _*_, _%_, _^_}
 use native.Mathlib.Nat.{mul-div-cancel, suc-mul}
 use native.Mathlib.Omega.{arith}
 use borrow.Author.Tests.{le-leb, lt-leb}
 use lib.IntN.{ℤ, pos, negsuc}
-use lib.Pow.{pow-pos}
 use lib.Ieee.{Format, binary32, binary64}
 use Rattle.float.specs.Format.{fractionOf, exponentOf, signOf, infOf, negativeOf, absOf}
 use Rattle.float.specs.Number.{Exact, notNumber, infinite, finite, isNone, times, none}

@@ -1,6 +1,6 @@
 // A value taken apart into the number that it stands for. RULES.md: The ten kinds, Scaled numbers.
 ghost use mathlib.Core.Path.{_≡_};
-ghost use Prim.Native.Nat.{_+_, _*_, _^_, _≤_};
+ghost use Prim.Native.Nat.{_*_, _^_, _≤_};
 ghost use lib.IntN.{pos};
 ghost use Rattle.float.specs.Number.{times};
 ghost use Rattle.value.specs.Meaning.{wholeOf, unit, exactOf};

@@ -10,13 +10,14 @@ use Rattle.float.specs.Number.{signedOf}
 use Rattle.float.specs.Order.{orderN, orderZ, compareOf}
 use Rattle.float.specs.declared.Order.the-variants.{Less}
 use Rattle.float.proofs.Naturals.{lt-or-ge, three-ways, order-equal, order-greater}
+use Rattle.float.proofs.Tests.{clash}
 use Rattle.float.proofs.Comparing.{by-sign, compare-nan-left, compare-nan-right, compare-signed}
 
 not-below-zero : (x : ℕ) → orderN x 0 ≡ Less → ⊥
 not-below-zero x h = elim (three-ways x 0) [
   | inl l ↦ omega arith
-  | inr (inl q) ↦ let z : _≡_ {A = ℕ} 0 1 = cc (order-equal x 0 q) in omega arith
-  | inr (inr g) ↦ let z : _≡_ {A = ℕ} 0 1 = cc (order-greater x 0 g) in omega arith
+  | inr (inl q) ↦ clash (cc (order-equal x 0 q))
+  | inr (inr g) ↦ clash (cc (order-greater x 0 g))
 ]
 
 signed-position : (s t : Bool) (x y : ℕ) → orderZ (signedOf s x) (signedOf t y) ≡ Less → orderZ (cond s (negsuc x) (pos x)) (cond t (negsuc y) (pos y)) ≡ Less
@@ -29,9 +30,9 @@ signed-position true true x y h = sym (by-sign true x true y) ∙ h
 pub less-position : (p e a b : ℕ) → 0 < infOf p e → compareOf p e a b ≡ Less → orderZ (positionOf p e a) (positionOf p e b) ≡ Less
 unfolding positionOf
 less-position p e a b i h = elim (lt-or-ge (infOf p e) (absOf p e a)) [
-  | inl n ↦ let z : _≡_ {A = ℕ} 0 1 = cc (compare-nan-left p e a b refl n) in absurd (omega arith)
+  | inl n ↦ clash (cc (compare-nan-left p e a b refl n))
   | inr k ↦ elim (lt-or-ge (infOf p e) (absOf p e b)) [
-    | inl n ↦ let z : _≡_ {A = ℕ} 0 1 = cc (compare-nan-right p e a b refl n) in absurd (omega arith)
+    | inl n ↦ clash (cc (compare-nan-right p e a b refl n))
     | inr l ↦ signed-position (negativeOf p e a) (negativeOf p e b) (absOf p e a) (absOf p e b) (compare-signed p e a b i refl refl k l refl refl ∙ h)
   ]
 ]

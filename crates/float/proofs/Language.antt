@@ -3,7 +3,7 @@
 use mathlib.Core.Path.{_≡_, refl, sym, _∙_, ap, subst}
 use mathlib.Core.Logic.{inl, inr}
 use mathlib.Core.Bool.{Bool, true, false, cond}
-use Prim.Native.Nat.{ℕ, zero, suc, _+_, _-_, _*_, _/_, _%_, _^_, _≤_, _<_}
+use Prim.Native.Nat.{ℕ, zero, suc, _+_, _*_, _/_, _%_, _^_, _≤_, _<_}
 use native.Mathlib.Nat.{mul-one}
 use native.Mathlib.Omega.{arith}
 use borrow.Author.Tests.{lt-ltb, le-ltb, lt-leb, le-leb, eq-eqb, ne-eqb}
@@ -13,7 +13,7 @@ use lib.Ieee.{Float, nan, inf, fin, Format, binary32, binary64, prec, low, up, d
 use lib.Ieee.Exact.{HasValue, odd-sign}
 use lib.Ieee.Bits.{ofBits-toBits, toBits-lt}
 use Rattle.float.specs.Format.{fractionOf, exponentOf, infOf, negativeOf, absOf, nanOf, magAt, magOf}
-use Rattle.float.specs.Number.{Exact, notNumber, infinite, finite, isNone}
+use Rattle.float.specs.Number.{Exact, notNumber, infinite, finite, isNone, times}
 use Rattle.float.specs.Order.{patternOf}
 use Rattle.float.proofs.Naturals.{lt-or-ge, three-ways}
 
@@ -122,6 +122,11 @@ unfolding isNan
 nan-means f means-nan = refl
 nan-means f (means-inf s) = refl
 nan-means f (means-fin s m e a q) = refl
+
+pub times-none : (k : ℕ) (x : Exact) → isNone (times k x) ≡ isNone x
+times-none k notNumber = refl
+times-none k (infinite s) = refl
+times-none k (finite s m) = refl
 
 pub none-pattern : (p e b : ℕ) → isNone (patternOf p e b) ≡ nanOf p e b
 unfolding patternOf

@@ -10,6 +10,7 @@ use borrow.Author.Tests.{eq-eqb, ne-eqb, le-leb, lt-leb, leb-true, lt-ltb, le-lt
 use lib.Dec.{eqb, leb, ltb}
 use lib.ListN.{length, getD, drop, drop-of-length-le}
 use lib.Seq.{drop-cons}
+use Rattle.float.proofs.Tests.{clash}
 use Rattle.text.specs.declared.Digit.{Digit}
 use Rattle.text.specs.declared.Digit.the-variants as digit
 use Rattle.text.specs.declared.Number.the-variants as number
@@ -79,11 +80,11 @@ digit-small base b {d} h = found (digitOf b) h
   where
     by-test : (e : ℕ) (t : Bool) → ltb e base ≡ t → cond t (digit.Is e) digit.Nothing ≡ digit.Is d → d < base
     by-test e true p k = let q : e ≡ d = cc in rw (← q) (ltb-true e base p)
-    by-test e false p k = let z : _≡_ {A = ℕ} 0 1 = cc in absurd (omega arith)
+    by-test e false p k = clash cc
 
     found : (x : Digit) → below base x ≡ digit.Is d → d < base
     found (digit.Is e) k = by-test e (ltb e base) refl k
-    found digit.Nothing k = let z : _≡_ {A = ℕ} 0 1 = cc in absurd (omega arith)
+    found digit.Nothing k = clash cc
 
 -- ---- a number
 

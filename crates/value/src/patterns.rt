@@ -1,6 +1,6 @@
 // From a value to its bits and back. RULES.md: The ten kinds.
 ghost use mathlib.Core.Path.{_≡_};
-ghost use Prim.Native.Nat.{_-_, _*_, _^_, _≤_, _<_};
+ghost use Prim.Native.Nat.{_*_, _^_, _≤_, _<_};
 ghost use lib.Ieee.{binary32, binary64};
 ghost use lib.Signed.{mag};
 ghost use Rattle.value.specs.Meaning.{floatBits, twosOf, fromTwos, bitsOf, f32Value, f64Value, valueOf};

@@ -1,6 +1,5 @@
 -- Up to i no sample differs from itself.
 use Prim.Native.Nat.{_-_}
-use native.Mathlib.Omega.{arith}
 use lib.ListN.{length}
 use lib.Ieee.{nan}
 use Rattle.row.specs.Clamp.{isNotSelf}
