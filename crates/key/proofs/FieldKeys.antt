@@ -16,33 +16,17 @@ use Rattle.value.specs.declared.Kind.{Kind}
 use Rattle.value.specs.declared.Kind.the-variants as kind
 use Rattle.value.specs.declared.Value.{Value}
 use Rattle.value.specs.declared.Value.the-variants.{U8, U16, U32, U64, I8, I16, I32, I64, F32, F64}
-use Rattle.value.specs.Kinds.{Form, unsigned, signed, float, formOf, kindOf}
+use Rattle.value.specs.Kinds.{formOf, kindOf}
 use Rattle.value.specs.Meaning.{Content, natural, integer, real, contentOf, wholeOf, unit, exactIn, valueOf}
 use Rattle.cmp.specs.Choose.{valueOrder}
 use Rattle.cmp.proofs.Numbers.{integers-order}
 use Rattle.key.specs.Key.{keyIn, keyNumber, bytesOf, bitsFrom, notCanonical}
 use Rattle.key.specs.Theorem.{InRange, Keyed, normal}
+use Rattle.key.proofs.Ranges.{formIn, content-form}
 use Rattle.key.proofs.SignedKeys.{shifted-order, shifted-below, shifted-read, read-shifted}
 use Rattle.key.proofs.FloatFields.{float-below, float-canonical, float-read, word-read, float-order, made-some, made-key}
 
 -- ---- the order
-
-abbrev formIn : Content → Form
-formIn (natural k n) = unsigned k
-formIn (integer k z) = signed k
-formIn (real f x w) = float f
-
-content-form : (v : Value) → formIn (contentOf v) ≡ formOf (kindOf v)
-content-form (U8 n) = refl
-content-form (U16 n) = refl
-content-form (U32 n) = refl
-content-form (U64 n) = refl
-content-form (I8 z) = refl
-content-form (I16 z) = refl
-content-form (I32 z) = refl
-content-form (I64 z) = refl
-content-form (F32 x w) = refl
-content-form (F64 x w) = refl
 
 signed-order : (k : ℕ) (y z : ℤ) → mag y < 2 ^ (k - 1) → mag z < 2 ^ (k - 1)
     → orderN (keyIn (integer k y)) (keyIn (integer k z)) ≡ orderOf (float-number.numberOf (exactIn (integer k y))) (float-number.numberOf (exactIn (integer k z)))

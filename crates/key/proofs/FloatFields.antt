@@ -9,11 +9,11 @@ use lib.Dec.{T, eqb}
 use lib.Ieee.{Float, Format, binary32, binary64, isNan, fits, toBits, ofBits, top}
 use lib.Ieee.Bits.{ofBits-toBits, toBits-lt, toBits-ofBits, ofBits-fits}
 use Rattle.float.specs.Format.{fractionOf, exponentOf, signOf, infOf, absOf, nanOf}
-use Rattle.float.specs.Number.{Exact, notNumber, infinite, finite, isNone, times}
+use Rattle.float.specs.Number.{Exact, notNumber, isNone, times}
 use Rattle.float.specs.Order.{orderN, orderOf, patternOf}
 use Rattle.float.specs.Number as float-number
 use Rattle.float.proofs.Comparing.{pattern-nan}
-use Rattle.float.proofs.Language.{nan-pattern, nan-float}
+use Rattle.float.proofs.Language.{times-none, nan-pattern, nan-float}
 use Rattle.float.proofs.Tests.{neither}
 use Rattle.value.specs.Kinds.{float}
 use Rattle.value.specs.Meaning.{Content, real, stepOf, exactIn, floatBits, nanWord, wordFor}
@@ -57,11 +57,6 @@ nan-none f x w h =
     = ap (patternOf (fractionOf f) (exponentOf f)) b ∙ pattern-nan (fractionOf f) (exponentOf f) _ (ltb-true _ _ (word-is-nan f w)) in
     ap (λ (y : Exact). isNone (times (stepOf f) y)) n
 
-times-none : (k : ℕ) (y : Exact) → isNone (times k y) ≡ isNone y
-times-none k notNumber = refl
-times-none k (infinite s) = refl
-times-none k (finite s m) = refl
-
 -- ---- a float that is no NaN
 
 module _ (f : Format) (x : Float) (w : ℕ) (h : T (fits f x)) (s : isNone (exactIn (real f x w)) ≡ false) where
@@ -89,9 +84,9 @@ module _ (f : Format) (x : Float) (w : ℕ) (h : T (fits f x)) (s : isNone (exac
 
   -- what is read of the key; valueOf takes the rest by the number of patterns
   abbrev readBits : ℕ
-  readBits = patternFrom (fractionOf f) (exponentOf f) (keyIn (real f x w)) % (2 * signOf (fractionOf f) (exponentOf f))
+  readBits = patternFrom (signOf (fractionOf f) (exponentOf f)) (keyIn (real f x w)) % (2 * signOf (fractionOf f) (exponentOf f))
 
-  read-is : readBits ≡ patternFrom (fractionOf f) (exponentOf f) (keyIn (real f x w))
+  read-is : readBits ≡ patternFrom (signOf (fractionOf f) (exponentOf f)) (keyIn (real f x w))
   read-is = mod-eq-of-lt (from-below (fractionOf f) (exponentOf f) _ float-below)
 
   pub float-read : ofBits f readBits ≡ plusZero f x
@@ -117,9 +112,9 @@ float-order f x y v w h k s t =
 
 module _ (f : Format) (n : ℕ) (h : n < 2 * signOf (fractionOf f) (exponentOf f)) (c : notCanonical (float f) n ≡ false) where
   abbrev madeBits : ℕ
-  madeBits = patternFrom (fractionOf f) (exponentOf f) n % (2 * signOf (fractionOf f) (exponentOf f))
+  madeBits = patternFrom (signOf (fractionOf f) (exponentOf f)) n % (2 * signOf (fractionOf f) (exponentOf f))
 
-  made-is : madeBits ≡ patternFrom (fractionOf f) (exponentOf f) n
+  made-is : madeBits ≡ patternFrom (signOf (fractionOf f) (exponentOf f)) n
   made-is = mod-eq-of-lt (from-below (fractionOf f) (exponentOf f) n h)
 
   made-small : madeBits < 2 * top f
@@ -141,5 +136,5 @@ module _ (f : Format) (n : ℕ) (h : n < 2 * signOf (fractionOf f) (exponentOf f
 
   pub made-key : keyIn madeFloat ≡ n
   made-key =
-      ap (floatKey (fractionOf f) (exponentOf f)) (bits-pattern f madeBits made-small ∙ made-is)
-      ∙ key-from (fractionOf f) (exponentOf f) n h (eqb-false _ _ (neither (nanOf (fractionOf f) (exponentOf f) (patternFrom (fractionOf f) (exponentOf f) n)) _ c .1))
+      ap (floatKey (signOf (fractionOf f) (exponentOf f))) (bits-pattern f madeBits made-small ∙ made-is)
+      ∙ key-from (fractionOf f) (exponentOf f) n h (eqb-false _ _ (neither (nanOf (fractionOf f) (exponentOf f) (patternFrom (signOf (fractionOf f) (exponentOf f)) n)) _ c .1))

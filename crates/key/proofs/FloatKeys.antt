@@ -2,7 +2,7 @@
 -- A key is the signed abs moved up by the sign's weight, with the one place of minus zero left out; so it orders as signed abs do.
 use mathlib.Core.Path.{_≡_, refl, _∙_}
 use mathlib.Core.Logic.{inl, inr}
-use mathlib.Core.Bool.{Bool, true, false, _||_, cond}
+use mathlib.Core.Bool.{true, false, _||_, cond}
 use Prim.Native.Nat.{ℕ, zero, suc, _+_, _-_, _*_, _≤_, _<_}
 use native.Mathlib.Omega.{arith}
 use borrow.Author.Tests.{lt-ltb, le-ltb, lt-leb, le-leb, eq-eqb, ne-eqb, ltb-false}
@@ -24,16 +24,16 @@ module _ (p e : ℕ) where
 
   -- ---- the key of a pattern
 
-  key-clear : (b : ℕ) → b < signOf p e → floatKey p e b ≡ signOf p e + b
+  key-clear : (b : ℕ) → b < signOf p e → floatKey (signOf p e) b ≡ signOf p e + b
   key-clear b h = simp (ne-eqb b (signOf p e) (λ q. omega arith), lt-leb _ _ h)
 
-  key-zero : (b : ℕ) → b ≡ signOf p e → floatKey p e b ≡ signOf p e
+  key-zero : (b : ℕ) → b ≡ signOf p e → floatKey (signOf p e) b ≡ signOf p e
   key-zero b q = simp (eq-eqb b (signOf p e) q)
 
-  key-set : (b : ℕ) → signOf p e < b → floatKey p e b ≡ 2 * signOf p e - 1 - b
+  key-set : (b : ℕ) → signOf p e < b → floatKey (signOf p e) b ≡ 2 * signOf p e - 1 - b
   key-set b h = let l : signOf p e ≤ b = omega arith in simp (ne-eqb b (signOf p e) (λ q. omega arith), le-leb _ _ l)
 
-  pub key-below : (b : ℕ) → b < 2 * signOf p e → floatKey p e b < 2 * signOf p e
+  pub key-below : (b : ℕ) → b < 2 * signOf p e → floatKey (signOf p e) b < 2 * signOf p e
   key-below b h = let z = weight in elim (three-ways b (signOf p e)) [
     | inl l ↦ rw (key-clear b l) (omega arith)
     | inr (inl q) ↦ rw (key-zero b q) (omega arith)
@@ -50,7 +50,7 @@ module _ (p e : ℕ) where
   spread-minus s zero h = absurd (omega arith)
   spread-minus s (suc m) h = omega arith
 
-  key-spread : (b : ℕ) → floatKey p e b ≡ spread 1 (signOf p e) (signedAbs b)
+  key-spread : (b : ℕ) → floatKey (signOf p e) b ≡ spread 1 (signOf p e) (signedAbs b)
   key-spread b = elim (three-ways b (signOf p e)) [
     | inl l ↦ rw (key-clear b l, lt-leb _ _ l, abs-clear p e b l)
     | inr (inl q) ↦
@@ -67,27 +67,27 @@ module _ (p e : ℕ) where
 
   -- two patterns that are no NaN
   pub key-order : (a b : ℕ) → 0 < infOf p e → a < 2 * signOf p e → b < 2 * signOf p e → nanOf p e a ≡ false → nanOf p e b ≡ false
-      → orderN (floatKey p e a) (floatKey p e b) ≡ compareOf p e a b
+      → orderN (floatKey (signOf p e) a) (floatKey (signOf p e) b) ≡ compareOf p e a b
   key-order a b i h k m n =
       rw (key-spread a, key-spread b) (spread-order 1 (signOf p e) (signedAbs a) (signedAbs b) (reaches a h) (reaches b k))
       ∙ compare-signed p e a b i refl refl (ltb-false _ _ m) (ltb-false _ _ n) refl refl
 
   -- ---- the pattern of a key
 
-  from-low : (n : ℕ) → n < signOf p e → patternFrom p e n ≡ 2 * signOf p e - 1 - n
+  from-low : (n : ℕ) → n < signOf p e → patternFrom (signOf p e) n ≡ 2 * signOf p e - 1 - n
   from-low n h = simp (lt-ltb _ _ h)
 
-  from-high : (n : ℕ) → signOf p e ≤ n → patternFrom p e n ≡ n - signOf p e
+  from-high : (n : ℕ) → signOf p e ≤ n → patternFrom (signOf p e) n ≡ n - signOf p e
   from-high n h = simp (le-ltb _ _ h)
 
-  pub from-below : (n : ℕ) → n < 2 * signOf p e → patternFrom p e n < 2 * signOf p e
+  pub from-below : (n : ℕ) → n < 2 * signOf p e → patternFrom (signOf p e) n < 2 * signOf p e
   from-below n h = elim (lt-or-ge n (signOf p e)) [
     | inl l ↦ rw (from-low n l) (omega arith)
     | inr g ↦ rw (from-high n g) (omega arith)
   ]
 
   -- minus zero has become plus zero, and nothing else has changed
-  pub from-key : (b : ℕ) → b < 2 * signOf p e → patternFrom p e (floatKey p e b) ≡ cond (eqb b (signOf p e)) 0 b
+  pub from-key : (b : ℕ) → b < 2 * signOf p e → patternFrom (signOf p e) (floatKey (signOf p e) b) ≡ cond (eqb b (signOf p e)) 0 b
   from-key b h = elim (three-ways b (signOf p e)) [
     | inl l ↦
         let g : signOf p e ≤ signOf p e + b = omega arith in
@@ -100,7 +100,7 @@ module _ (p e : ℕ) where
 
   -- so it is canonical when the pattern is no NaN
   pub key-canonical : (b : ℕ) → b < 2 * signOf p e → nanOf p e b ≡ false
-      → (nanOf p e (patternFrom p e (floatKey p e b)) || eqb (patternFrom p e (floatKey p e b)) (signOf p e)) ≡ false
+      → (nanOf p e (patternFrom (signOf p e) (floatKey (signOf p e) b)) || eqb (patternFrom (signOf p e) (floatKey (signOf p e) b)) (signOf p e)) ≡ false
   key-canonical b h n = rw (from-key b h) (elim (three-ways b (signOf p e)) [
     | inl l ↦ let d = ne-eqb b (signOf p e) (λ q. omega arith) in rw (d, n, d)
     | inr (inl q) ↦
@@ -110,7 +110,7 @@ module _ (p e : ℕ) where
   ])
 
   -- a number is the key of its pattern, unless that is minus zero
-  pub key-from : (n : ℕ) → n < 2 * signOf p e → (patternFrom p e n ≡ signOf p e → ⊥) → floatKey p e (patternFrom p e n) ≡ n
+  pub key-from : (n : ℕ) → n < 2 * signOf p e → (patternFrom (signOf p e) n ≡ signOf p e → ⊥) → floatKey (signOf p e) (patternFrom (signOf p e) n) ≡ n
   key-from n h c = elim (lt-or-ge n (signOf p e)) [
     | inl l ↦
         let d : 2 * signOf p e - 1 - n ≡ signOf p e → ⊥ = λ q. c (from-low n l ∙ q) in

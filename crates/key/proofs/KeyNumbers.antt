@@ -1,6 +1,5 @@
 -- The number of a key from a value's bits, and the bits from the number: each form once, over the weight of its sign bit.
 use mathlib.Core.Path.{_≡_, refl, sym, _∙_, ap, subst}
-use mathlib.Core.Bool.{Bool, true, false, cond}
 use Prim.Native.Nat.{ℕ, _+_, _-_, _*_, _%_, _^_, _≤_, _<_}
 use native.Mathlib.Nat.{mod-eq-of-lt, mod-eq-sub-mod, pow-suc}
 use native.Mathlib.Omega.{arith}
@@ -8,18 +7,18 @@ use borrow.Author.Tests.{eq-eqb, ne-eqb, lt-ltb, le-ltb, le-leb, lt-leb}
 use lib.IntN.{ℤ, pos, negsuc}
 use lib.Signed.{mag}
 use lib.Pow.{pow-mono}
-use Rattle.float.specs.Format.{fractionOf, exponentOf, negativeOf, absOf, infiniteOf, nanOf, magOf}
-use Rattle.float.specs.Number.{Exact, notNumber, infinite, finite, isNone, times}
+use Rattle.float.specs.Format.{fractionOf, exponentOf, absOf}
+use Rattle.float.specs.Number.{isNone}
 use Rattle.float.specs.Order.{patternOf}
-use Rattle.float.proofs.Language.{none-pattern}
+use Rattle.float.proofs.Language.{times-none, none-pattern}
 use Rattle.value.specs.declared.Kind.{Kind}
 use Rattle.value.specs.declared.Value.{Value}
 use Rattle.value.specs.Kinds.{Form, unsigned, signed, float, formOf, bitsFor, kindOf}
 use Rattle.value.specs.Meaning.{Content, natural, integer, real, contentOf, twosOf, floatBits, bitsOf, stepOf, exactIn, exactOf}
 use Rattle.value.specs.Meaning as value
 use Rattle.key.specs.declared.Layout.{Layout}
-use Rattle.key.specs.Key.{shifted, keyIn, keyNumber, bytesOf, bitsFrom, notCanonical}
-use Rattle.key.specs.Steps.{layoutFor, Room, floatNumber, floatPattern, numberIn, bitsIn, absIn, nanIn, foreignIn}
+use Rattle.key.specs.Key.{shifted, floatKey, patternFrom, keyIn, keyNumber, bytesOf, bitsFrom, notCanonical}
+use Rattle.key.specs.Steps.{layoutFor, Room, numberIn, bitsIn, absIn, nanIn, foreignIn}
 use Rattle.key.proofs.Ranges.{Ranged, Sized, kind-sized, formIn, content-form, twice-half, bits-range}
 
 -- ---- the steps of the code
@@ -35,19 +34,19 @@ module _ (half n : ℕ) where
       let s : n + half - 2 * half < 2 * half = omega arith in
       sym (mod-eq-sub-mod g ∙ mod-eq-of-lt s ∙ r)
 
-  pub number-zero : n ≡ half → half ≡ floatNumber half n
+  pub number-zero : n ≡ half → half ≡ floatKey half n
   number-zero q = rw (eq-eqb n half q)
 
-  pub number-negative : (n ≡ half → ⊥) → half ≤ n → half - 1 - (n - half) ≡ floatNumber half n
+  pub number-negative : (n ≡ half → ⊥) → half ≤ n → half - 1 - (n - half) ≡ floatKey half n
   number-negative d h = rw (ne-eqb n half d, le-leb half n h) (omega arith)
 
-  pub number-positive : (n ≡ half → ⊥) → n < half → half + n ≡ floatNumber half n
+  pub number-positive : (n ≡ half → ⊥) → n < half → half + n ≡ floatKey half n
   number-positive d h = rw (ne-eqb n half d, lt-leb half n h)
 
-  pub pattern-negative : n < half → half - 1 - n + half ≡ floatPattern half n
+  pub pattern-negative : n < half → half - 1 - n + half ≡ patternFrom half n
   pattern-negative h = rw (lt-ltb n half h) (omega arith)
 
-  pub pattern-positive : half ≤ n → n - half ≡ floatPattern half n
+  pub pattern-positive : half ≤ n → n - half ≡ patternFrom half n
   pattern-positive h = rw (le-ltb n half h)
 
   pub abs-negative : half ≤ n → n - half ≡ absIn half n
@@ -88,11 +87,6 @@ form-foreign (signed k) n = refl
 form-foreign (float f) n = refl
 
 -- ---- no number
-
-times-none : (k : ℕ) (x : Exact) → isNone (times k x) ≡ isNone x
-times-none k notNumber = refl
-times-none k (infinite s) = refl
-times-none k (finite s m) = refl
 
 content-none : (x : Content) → nanIn (layoutFor (formIn x)) (value.bitsIn x) ≡ isNone (exactIn x)
 unfolding absOf

@@ -1,12 +1,11 @@
--- What a program holds is in the range of its kind: owning a value tells it. So its bits are no more than its kind has. And a count that is not refused is at most 12.
-use mathlib.Core.Path.{_≡_, refl, sym, _∙_, subst}
-use mathlib.Core.Bool.{Bool, true, false, _||_, cond, true≢false}
+-- What a program holds is in the range of its kind: owning a value tells it. So its bits are no more than its kind has.
+use mathlib.Core.Path.{_≡_, refl, sym, subst}
+use mathlib.Core.Bool.{Bool, true, false, cond}
 use mathlib.Core.List.{List}
 use Prim.Native.Nat.{ℕ, suc, _+_, _-_, _*_, _/_, _^_, _≤_, _<_}
 use native.Mathlib.Nat.{pow-suc}
 use native.Mathlib.Omega.{arith}
-use borrow.Author.Tests.{ltb-false}
-use lib.Dec.{T, eqb, ltb, lit≤, lit<}
+use lib.Dec.{T, lit≤, lit<}
 use lib.IntN.{ℤ, pos, negsuc}
 use lib.Signed.{mag}
 use lib.Pow.{pow-pos}
@@ -23,7 +22,6 @@ use Rattle.value.specs.declared.Value.{Value}
 use Rattle.value.specs.declared.Value.the-variants.{U8, U16, U32, U64, I8, I16, I32, I64, F32, F64}
 use Rattle.value.specs.Kinds.{Form, unsigned, signed, float, formOf, bitsFor, kindOf}
 use Rattle.value.specs.Meaning.{Content, natural, integer, real, contentOf, floatBits, bitsIn}
-use Rattle.record.specs.Record.{badCount}
 use Rattle.value.proofs.Value.{the-type}
 use Rattle.value.proofs.Value.Laws.{the-laws}
 
@@ -110,12 +108,3 @@ pub bits-range : (x : Content) → Sized (formIn x) → Ranged x → bitsIn x < 
 bits-range (natural k n) s r = r
 bits-range (integer k z) s r = twos-range k z (s .0) r
 bits-range (real f x w) s r = float-range f x w (r .0) (r .1)
-
--- ---- a count that is not refused
-
-pub good-count : (n : ℕ) {t : Bool} → t ≡ badCount n → t ≡ false → n ≤ 12
-good-count n q f = ltb-false 12 n (second (eqb n 0) (ltb 12 n) (sym q ∙ f))
-  where
-    second : (s t : Bool) → (s || t) ≡ false → t ≡ false
-    second true t h = absurd (true≢false h)
-    second false t h = h

@@ -9,6 +9,7 @@ use native.Mathlib.Omega.{arith}
 use borrow.Author.Tests.{eq-eqb, ne-eqb}
 use lib.ListN.{length, take, drop, getD, set, replicate, length-map, length-set, take-append-drop, drop-of-length-le, List·getD-map}
 use lib.Seq.{take-suc, take-all, drop-cons, drop-drop, drop-set-lt, take-suc-set, getD-take, length-take-le}
+use Rattle.float.proofs.Tests.{clash}
 use Rattle.value.specs.declared.Kind.{Kind}
 use Rattle.value.specs.declared.Value.{Value}
 use Rattle.value.specs.declared.Value.the-variants.{U8}
@@ -20,11 +21,11 @@ use Rattle.record.specs.declared.Place.{Place}
 use Rattle.record.specs.declared.Record.{Record}
 use Rattle.record.specs.declared.Recorded.{Recorded}
 use Rattle.record.specs.declared.Shape.{Shape}
-use Rattle.record.specs.Record.{fieldFor, badCount, kindsIn, recordOf, recordedOf}
+use Rattle.record.specs.Record.{fieldFor, blank, badCount, kindsIn, recordOf, recordedOf}
 use Rattle.record.proofs.Shape as shape-type
 use Rattle.key.specs.declared.Layout.{Layout}
 use Rattle.key.specs.Key.{bytesOf, numberFrom, bitsFrom, notCanonical, bytesIn, readFields, readOf}
-use Rattle.key.specs.Steps.{layoutFor, bitsIn, foreignIn, blankOf}
+use Rattle.key.specs.Steps.{layoutFor, bitsIn, foreignIn}
 use Rattle.key.proofs.Ranges.{kind-sized}
 use Rattle.key.proofs.KeyNumbers.{form-bits, form-foreign}
 
@@ -63,15 +64,15 @@ drop-replicate n zero f = ap (λ (j : ℕ). replicate j f) (let e : n ≡ n - 0 
 drop-replicate zero (suc k) f = ap (λ (j : ℕ). replicate j f) (let e : 0 ≡ 0 - suc k = omega arith in e)
 drop-replicate (suc n) (suc k) f = drop-replicate n k f ∙ ap (λ (j : ℕ). replicate j f) (let e : n - k ≡ suc n - suc k = omega arith in e)
 
-finish-blank : (n : ℕ) (rest : Outcome (List Field)) → ((fs : List Field) → rest ≡ gives fs → length fs ≡ n) → finishedAt 0 (blankOf n) rest ≡ recordedOf (mapped recordOf rest)
+finish-blank : (n : ℕ) (rest : Outcome (List Field)) → ((fs : List Field) → rest ≡ gives fs → length fs ≡ n) → finishedAt 0 (record { fields = blank .fields; count = n }) rest ≡ recordedOf (mapped recordOf rest)
 finish-blank n (refuses m p) h = refl
 finish-blank n (gives fs) h = rw (← h fs refl, zero-add, drop-replicate 12 (length fs) (fieldFor (U8 0)))
 
 -- as many fields are read as there are kinds
 then-length : (t : Bool) (number at : ℕ) (f : Field) (rest : Outcome (List Field)) (fs : List Field) (n : ℕ) → ((gs : List Field) → rest ≡ gives gs → length gs ≡ n)
     → refuseIf t number at (mapped (λ gs. f ∷ gs) rest) ≡ gives fs → length fs ≡ suc n
-then-length true number at f rest fs n h e = absurd (let z : _≡_ {A = ℕ} 0 1 = cc in omega arith)
-then-length false number at f (refuses m p) fs n h e = absurd (let z : _≡_ {A = ℕ} 0 1 = cc in omega arith)
+then-length true number at f rest fs n h e = clash cc
+then-length false number at f (refuses m p) fs n h e = clash cc
 then-length false number at f (gives gs) fs n h e = let q : fs ≡ f ∷ gs = cc in ap length q ∙ ap suc (h gs refl)
 
 read-length : (at : ℕ) (ks : List Kind) (key : List ℕ) (fs : List Field) → readFields at ks key ≡ gives fs → length fs ≡ length ks
@@ -197,7 +198,7 @@ module _ (s : Shape) (key : List ℕ) {t : Bool} (count-is : t ≡ badCount (s .
     unfolding readOf
     read-bad-length h = rw (← count-is, count-good, ← n-is, ne-eqb (length key) n h)
 
-    pub read-start : s .count ≤ 12 → length (s .places) ≡ 12 → length key ≡ n → {r : Record} → r ≡ blankOf (s .count) → Filled s key r 0 0
+    pub read-start : s .count ≤ 12 → length (s .places) ≡ 12 → length key ≡ n → {r : Record} → r ≡ blank → Filled s key (record { fields = r .fields; count = s .count }) 0 0
     unfolding readOf
     read-start few twelve h e = rw e (
       omega arith,

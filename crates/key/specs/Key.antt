@@ -2,10 +2,10 @@
 use Prim.Native.Nat.{ℕ, zero, suc, _+_, _-_, _*_, _/_, _%_, _^_}
 use mathlib.Core.Bool.{Bool, false, not, _||_, cond}
 use mathlib.Core.List.{List, [], _∷_, _++_}
-use lib.Dec.{eqb, ltb}
+use lib.Dec.{eqb, ltb, leb}
 use lib.ListN.{length, take, drop}
 use lib.IntN.{ℤ, pos, negsuc}
-use Rattle.float.specs.Format.{fractionOf, exponentOf, signOf, negativeOf, nanOf}
+use Rattle.float.specs.Format.{fractionOf, exponentOf, signOf, nanOf}
 use Rattle.float.specs.Number.{isNone}
 use Rattle.value.specs.declared.Kind.{Kind}
 use Rattle.value.specs.declared.Value.{Value}
@@ -26,17 +26,17 @@ abbrev pub shifted : ℕ → ℤ → ℕ
 shifted half (pos n) = half + n
 shifted half (negsuc n) = half - suc n
 
--- minus zero is made plus zero; a clear sign bit is set, and with a set one all bits are turned
-abbrev pub floatKey : ℕ → ℕ → ℕ → ℕ
-floatKey p e b =
-    cond (eqb b (signOf p e)) (signOf p e)
-    (cond (negativeOf p e b) (2 * signOf p e - 1 - b)
-    (signOf p e + b))
+-- half is the weight of the sign bit: minus zero is made plus zero; a clear sign bit is set, and with a set one all bits are turned
+abbrev pub floatKey : ℕ → ℕ → ℕ
+floatKey half b =
+    cond (eqb b half) half
+    (cond (leb half b) (2 * half - 1 - b)
+    (half + b))
 
 abbrev pub keyIn : Content → ℕ
 keyIn (natural k n) = n
 keyIn (integer k z) = shifted (2 ^ (k - 1)) z
-keyIn (real f x w) = floatKey (fractionOf f) (exponentOf f) (floatBits f x w)
+keyIn (real f x w) = floatKey (signOf (fractionOf f) (exponentOf f)) (floatBits f x w)
 
 abbrev pub keyNumber : Value → ℕ
 keyNumber v = keyIn (contentOf v)
@@ -94,22 +94,22 @@ numberFrom n [] = n
 numberFrom n (x ∷ xs) = numberFrom (n * 256 + x) xs
 
 -- the bits of a float whose key is n
-abbrev pub patternFrom : ℕ → ℕ → ℕ → ℕ
-patternFrom p e n = cond (ltb n (signOf p e)) (2 * signOf p e - 1 - n) (n - signOf p e)
+abbrev pub patternFrom : ℕ → ℕ → ℕ
+patternFrom half n = cond (ltb n half) (2 * half - 1 - n) (n - half)
 
 -- the bits of a value whose key is n
 abbrev pub bitsFrom : Form → ℕ → ℕ
 bitsFrom (unsigned k) n = n
 bitsFrom (signed k) n = (n + 2 ^ (k - 1)) % 2 ^ k
-bitsFrom (float f) n = patternFrom (fractionOf f) (exponentOf f) n
+bitsFrom (float f) n = patternFrom (signOf (fractionOf f) (exponentOf f)) n
 
 -- 12: a float that would be a NaN or minus zero
 abbrev pub notCanonical : Form → ℕ → Bool
 notCanonical (unsigned k) n = false
 notCanonical (signed k) n = false
 notCanonical (float f) n =
-    nanOf (fractionOf f) (exponentOf f) (patternFrom (fractionOf f) (exponentOf f) n)
-    || eqb (patternFrom (fractionOf f) (exponentOf f) n) (signOf (fractionOf f) (exponentOf f))
+    nanOf (fractionOf f) (exponentOf f) (patternFrom (signOf (fractionOf f) (exponentOf f)) n)
+    || eqb (patternFrom (signOf (fractionOf f) (exponentOf f)) n) (signOf (fractionOf f) (exponentOf f))
 
 -- how many bytes the keys of a shape have
 unfoldable pub bytesIn : List Kind → ℕ

@@ -4,14 +4,13 @@ use mathlib.Core.Path.{_≡_}
 use mathlib.Core.Bool.{Bool, false, _||_, cond}
 use mathlib.Core.List.{List, _++_}
 use lib.Dec.{eqb, ltb, leb}
-use lib.ListN.{length, take, drop, replicate}
+use lib.ListN.{length, take, drop}
 use Rattle.float.specs.Format.{fractionOf, exponentOf, signOf, infOf}
 use Rattle.value.specs.Kinds.{Form, unsigned, signed, float}
-use Rattle.value.specs.declared.Value.the-variants.{U8}
 use Rattle.value.specs.Outcome.{gives, refuseIf}
 use Rattle.record.specs.declared.Record.{Record}
-use Rattle.record.specs.Record.{fieldFor, fieldsOf}
-use Rattle.key.specs.Key.{nanThen}
+use Rattle.record.specs.Record.{fieldsOf}
+use Rattle.key.specs.Key.{floatKey, patternFrom, nanThen}
 use Rattle.key.specs.declared.Layout.{Layout}
 use Rattle.key.specs.declared.Layout.the-variants as layout
 
@@ -27,22 +26,16 @@ Room layout.Unsigned n = Unit {0}
 Room (layout.Signed half) n = (half ≤ 2 ^ 63) × (n < 2 * half)
 Room (layout.Float half infinity) n = (half ≤ 2 ^ 63) × (n < 2 * half)
 
-abbrev pub floatNumber : ℕ → ℕ → ℕ
-floatNumber half b = cond (eqb b half) half (cond (leb half b) (2 * half - 1 - b) (half + b))
-
-abbrev pub floatPattern : ℕ → ℕ → ℕ
-floatPattern half n = cond (ltb n half) (2 * half - 1 - n) (n - half)
-
 -- the number of a key from the bits, and the bits from the number
 abbrev pub numberIn : Layout → ℕ → ℕ
 numberIn layout.Unsigned b = b
 numberIn (layout.Signed half) b = (b + half) % (2 * half)
-numberIn (layout.Float half infinity) b = floatNumber half b
+numberIn (layout.Float half infinity) b = floatKey half b
 
 abbrev pub bitsIn : Layout → ℕ → ℕ
 bitsIn layout.Unsigned n = n
 bitsIn (layout.Signed half) n = (n + half) % (2 * half)
-bitsIn (layout.Float half infinity) n = floatPattern half n
+bitsIn (layout.Float half infinity) n = patternFrom half n
 
 -- a NaN, and what no key stands for
 abbrev pub absIn : ℕ → ℕ → ℕ
@@ -65,7 +58,3 @@ put at k l = take at l ++ (k ++ drop (at + length k) l)
 -- i is the index of the first NaN, or the count
 abbrev pub FirstNan : Record → ℕ → Type 0
 FirstNan r i = (n : ℕ) → nanThen 0 (fieldsOf r) (gives n) ≡ refuseIf (ltb i (r .count)) 1 i (gives n)
-
--- u8 0 in every place
-abbrev pub blankOf : ℕ → Record
-blankOf n = record { fields = replicate 12 (fieldFor (U8 0)); count = n }

@@ -2,8 +2,8 @@
 ghost use mathlib.Core.Path.{_≡_};
 ghost use Prim.Native.Nat.{_+_, _*_, _%_, _^_, _≤_, _<_};
 ghost use Rattle.value.specs.Kinds.{formOf};
-ghost use Rattle.key.specs.Key.{keyNumber, bytesOf};
-ghost use Rattle.key.specs.Steps.{Room, layoutFor, absIn, floatNumber, floatPattern, bitsIn, nanIn, foreignIn};
+ghost use Rattle.key.specs.Key.{floatKey, patternFrom, keyNumber, bytesOf};
+ghost use Rattle.key.specs.Steps.{Room, layoutFor, absIn, bitsIn, nanIn, foreignIn};
 use crate::Layout;
 use value::Kind;
 use value::Value;
@@ -44,7 +44,7 @@ fn turned(half: u64, n: u64) -> u64
 // Minus zero is folded into plus zero; of a negative float all bits are turned, of any other the sign bit.
 fn float_number(half: u64, bits: u64) -> u64
     requires { ⌜ (half ≤ 2 ^ 63) × (bits < 2 * half) ⌝ }
-    ensures { λ r. ⌜ r ≡ floatNumber half bits ⌝ }
+    ensures { λ r. ⌜ r ≡ floatKey half bits ⌝ }
 {
     if bits == half {
         half
@@ -57,7 +57,7 @@ fn float_number(half: u64, bits: u64) -> u64
 
 fn float_pattern(half: u64, n: u64) -> u64
     requires { ⌜ (half ≤ 2 ^ 63) × (n < 2 * half) ⌝ }
-    ensures { λ r. ⌜ r ≡ floatPattern half n ⌝ }
+    ensures { λ r. ⌜ r ≡ patternFrom half n ⌝ }
 {
     if n < half {
         half - 1 - n + half

@@ -2,22 +2,19 @@
 ghost use mathlib.Core.Path.{_≡_};
 ghost use Prim.Native.Nat.{_+_, _^_, _≤_, _<_};
 ghost use lib.ListN.{length, take, drop};
-ghost use Rattle.value.specs.Outcome.{refuses};
 ghost use Rattle.record.specs.Record.{kindsIn, recordedOf};
 ghost use Rattle.key.specs.Key.{bytesIn, numberFrom, readOf};
-ghost use Rattle.key.specs.Steps.{blankOf};
 use crate::layouts::bits_in;
 use crate::layouts::bytes_of;
 use crate::layouts::foreign_in;
 use crate::layouts::layout_of;
 use record::Field;
 use record::Made;
-use record::Record;
 use record::Recorded;
 use record::Shape;
 use record::bad_count;
-use value::Refusal;
-use value::Value;
+use record::blank;
+use record::refused;
 
 // How many bytes the keys of a shape have.
 fn shape_length(s: Shape) -> usize
@@ -56,32 +53,6 @@ fn read_number(key: &[u8], from: usize, width: usize) -> u64
     n
 }
 
-// u8 0 in every place.
-fn blank_record(count: usize) -> Record
-    ensures { λ r. ⌜ r ≡ blankOf count ⌝ }
-{
-    let f = Field {
-        value: Value::U8(0),
-    };
-    Record {
-        fields: [f; 12],
-        count: count,
-    }
-}
-
-fn refused(number: u8, place: usize) -> Recorded
-    ensures { λ r. ⌜ r ≡ recordedOf (refuses number place) ⌝ }
-{
-    let none = blank_record(0);
-    Recorded {
-        outcome: Made::Refused(Refusal {
-            number: number,
-            place: place,
-        }),
-        record: none,
-    }
-}
-
 pub fn read(shape: Shape, key: &[u8]) -> Recorded
     ensures { λ r. ⌜ r ≡ recordedOf (readOf shape (now (key .entry))) ⌝ }
 {
@@ -92,7 +63,8 @@ pub fn read(shape: Shape, key: &[u8]) -> Recorded
     if key.len() != shape_length(shape) {
         return refused(9, 0);
     }
-    let mut made = blank_record(count);
+    let mut made = blank();
+    made.count = count;
     let mut from = 0;
     let mut at = 0;
     while at < count {

@@ -1,12 +1,11 @@
 -- Two values of one kind have an order.
 use mathlib.Core.Path.{_≡_}
-use Prim.Native.Nat.{ℕ}
 use mathlib.Core.Bool.{false}
-use native.Mathlib.Omega.{arith}
 use Rattle.value.specs.declared.Value.{Value}
 use Rattle.value.specs.declared.Refusal.{Refusal}
 use Rattle.value.specs.Outcome.{gives, refusalOf}
 use Rattle.float.specs.declared.Order.{Order}
+use Rattle.float.proofs.Tests.{clash}
 use Rattle.cmp.specs.Compare.{kindsDiffer, compareOf}
 use Rattle.cmp.specs.Choose.{valueOrder}
 
@@ -18,4 +17,4 @@ pub given-same : {o p : Order} → gives o ≡ gives p → o ≡ p
 given-same h = cc
 
 pub refused-given : (f : Refusal) (o : Order) → refusalOf f ≡ gives o → ⊥
-refused-given f o h = let z : _≡_ {A = ℕ} 0 1 = cc in omega arith
+refused-given f o h = clash cc

@@ -1,5 +1,5 @@
 -- Records: their fields, their comparison, the choice between two. RULES.md: Records, Refusals.
-use Prim.Native.Nat.{ℕ, suc, _-_, _+_}
+use Prim.Native.Nat.{ℕ, suc, _-_}
 use mathlib.Core.Bool.{Bool, true, false, _||_, cond}
 use mathlib.Core.List.{List, [], _∷_, _++_, map}
 use lib.Dec.{eqb, ltb}

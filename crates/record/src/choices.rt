@@ -10,7 +10,6 @@ use crate::comparisons::decide;
 use crate::makings::done;
 use crate::makings::refused;
 use float::Order;
-use value::Refusal;
 
 // The other one when the order is Greater, else the first.
 fn chosen_by(d: Decided, one: Record, other: Record) -> Recorded
@@ -20,15 +19,12 @@ fn chosen_by(d: Decided, one: Record, other: Record) -> Recorded
         Decided::Is(x) => {
             let o = x.order;
             match o {
-                Order::Unordered => refused(Refusal {
-                    number: 8,
-                    place: x.at,
-                }),
+                Order::Unordered => refused(8, x.at),
                 Order::Greater => done(other),
                 _ => done(one),
             }
         }
-        Decided::Refused(f) => refused(f),
+        Decided::Refused(f) => refused(f.number, f.place),
     }
 }
 

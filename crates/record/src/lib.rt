@@ -11,6 +11,7 @@ pub use comparisons::compare;
 pub use makings::blank;
 pub use makings::get;
 pub use makings::push;
+pub use makings::refused;
 pub use makings::set;
 pub use shapes::bad_count;
 pub use shapes::shape_of;

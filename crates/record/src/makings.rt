@@ -1,7 +1,7 @@
 // Making records, setting their places and reading them. RULES.md: Records.
 ghost use mathlib.Core.Path.{_≡_};
 ghost use Prim.Native.Nat.{_<_};
-ghost use Rattle.value.specs.Outcome.{gives, refusalOf};
+ghost use Rattle.value.specs.Outcome.{gives, refuses};
 ghost use Rattle.record.specs.Record as spec;
 ghost use Rattle.record.specs.Record.{valueAt, recordedOf, heldOutcome, setOf, getOf, pushOf};
 use crate::Field;
@@ -33,11 +33,12 @@ pub(crate) fn done(r: Record) -> Recorded
     }
 }
 
-pub(crate) fn refused(f: Refusal) -> Recorded
-    ensures { λ s. ⌜ s ≡ recordedOf (refusalOf f) ⌝ }
+// A refusal, and the blank record beside it.
+pub fn refused(number: u8, place: usize) -> Recorded
+    ensures { λ s. ⌜ s ≡ recordedOf (refuses number place) ⌝ }
 {
     Recorded {
-        outcome: Made::Refused(f),
+        outcome: Made::Refused(Refusal { number, place }),
         record: blank(),
     }
 }
@@ -46,10 +47,7 @@ pub fn set(r: Record, at: usize, v: Value) -> Recorded
     ensures { λ s. ⌜ s ≡ recordedOf (setOf r at v) ⌝ }
 {
     if 11 < at {
-        return refused(Refusal {
-            number: 11,
-            place: 0,
-        });
+        return refused(11, 0);
     }
     let mut changed = r;
     changed.fields[at] = Field { value: v };
@@ -84,10 +82,7 @@ pub fn push(r: Record, v: Value) -> Recorded
 {
     let end = r.count;
     if 11 < end {
-        return refused(Refusal {
-            number: 11,
-            place: 0,
-        });
+        return refused(11, 0);
     }
     let mut changed = r;
     changed.fields[end] = Field { value: v };

@@ -1,10 +1,10 @@
 -- What is left of the key, read into the record that is filled up to `at`, gives the whole.
-use mathlib.Core.Path.{_≡_, _∙_}
+use mathlib.Core.Path.{_≡_, sym, _∙_}
 use Prim.Native.Nat.{_-_}
 use lib.ListN.{length, getD}
 use Rattle.value.specs.declared.Kind.the-variants.{U8}
+use Rattle.record.proofs.Deciding.{good-count}
 use Rattle.key.proofs.KeyNumbers.{number-room}
-use Rattle.key.proofs.Ranges.{good-count}
 use Rattle.key.proofs.ReadSteps.{twelve-places, Filled, read-bad-count, read-bad-length, read-start, read-room, read-stop, read-step, read-end}
 use borrow.Author.Needs.{needs}
 use Rattle.key.proofs.reading.read.Statement.{statement}
@@ -26,7 +26,7 @@ returns c =
     c .refused .ensures ∙ read-bad-count (start .args .t1) (start .args .key .now) (bad .bad-count .ensures) (c .before .if1 .taken)
 
 shape-length-requires : tie.Need-shape-length-requires Inv-loop μ-loop
-shape-length-requires c κs = good-count _ (c .before .bad-count .ensures) (c .if1 .left)
+shape-length-requires c κs = good-count _ (sym (c .before .bad-count .ensures) ∙ c .if1 .left)
 
 returns-2 : tie.Need-returns-2 Inv-loop μ-loop
 returns-2 c =
@@ -41,7 +41,7 @@ loop-holds c =
     let bad = counted .before .before in
     let start = bad .before .before in
     read-start (start .args .t1) (start .args .key .now) (bad .bad-count .ensures) (counted .before .if1 .left) (counted .shape-length .ensures)
-    (good-count _ (bad .bad-count .ensures) (counted .before .if1 .left)) (twelve start) (c .before .if2 .left) (c .blank-record .ensures)
+    (good-count _ (sym (bad .bad-count .ensures) ∙ counted .before .if1 .left)) (twelve start) (c .before .if2 .left) (c .blank .ensures)
 
 read-number-requires : tie.Need-read-number-requires Inv-loop μ-loop
 read-number-requires c κs =

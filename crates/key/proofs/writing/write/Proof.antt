@@ -1,5 +1,6 @@
 -- Each way out is one law of what writing answers and leaves.
-use Rattle.key.proofs.Ranges.{good-count}
+use mathlib.Core.Path.{sym, _∙_}
+use Rattle.record.proofs.Deciding.{good-count}
 use Rattle.key.proofs.WriteSteps.{write-bad-count, write-short, write-nan, write-done}
 use borrow.Author.Needs.{needs}
 use Rattle.key.proofs.writing.write.Statement.{statement}
@@ -12,7 +13,7 @@ returns c =
     write-bad-count (start .args .r) (start .args .buffer .now) (bad .bad-count .ensures) (c .before .if1 .taken) (c .refused .ensures)
 
 key-length-requires : tie.Need-key-length-requires
-key-length-requires c κs = good-count _ (c .before .bad-count .ensures) (c .if1 .left)
+key-length-requires c κs = good-count _ (sym (c .before .bad-count .ensures) ∙ c .if1 .left)
 
 returns-2 : tie.Need-returns-2
 returns-2 c =
@@ -23,7 +24,7 @@ returns-2 c =
     (counted .key-length .ensures) (c .before .if2 .taken) (c .refused2 .ensures)
 
 first-nan-requires : tie.Need-first-nan-requires
-first-nan-requires c κs = good-count _ (c .before .before .before .bad-count .ensures) (c .before .before .if1 .left)
+first-nan-requires c κs = good-count _ (sym (c .before .before .before .bad-count .ensures) ∙ c .before .before .if1 .left)
 
 returns-3 : tie.Need-returns-3
 returns-3 c =
@@ -37,7 +38,7 @@ returns-3 c =
 write-fields-requires : tie.Need-write-fields-requires
 write-fields-requires c κs =
     let counted = c .before .before .before .before in
-    (good-count _ (counted .before .before .bad-count .ensures) (counted .before .if1 .left), rw (counted .key-length .ensures) at (c .before .before .before .if2 .left))
+    (good-count _ (sym (counted .before .before .bad-count .ensures) ∙ counted .before .if1 .left), rw (counted .key-length .ensures) at (c .before .before .before .if2 .left))
 
 returns-4 : tie.Need-returns-4
 returns-4 c =

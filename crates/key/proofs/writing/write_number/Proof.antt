@@ -1,6 +1,5 @@
 -- The last byte first: what is left to lay down, laid into what stands there, is the whole.
 use mathlib.Core.Path.{refl}
-use Prim.Native.Nat.{_-_}
 use native.Mathlib.Omega.{arith}
 use Rattle.key.proofs.NumberBytes.{Laying, lay-step, lay-end}
 use borrow.Author.Needs.{needs}
