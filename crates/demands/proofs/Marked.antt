@@ -1,0 +1,19 @@
+-- The marked cases hold of the rules: the definitions, computed on each, give the list's own answers.
+use mathlib.Core.Path.{_≡_, refl}
+use lib.Ieee.{toBits, ofBits, ofFields, odd, size, span, climb, isNan}
+use Rattle.float.specs.Format.{absOf, classOf, magOf, scaledOf, positionOf}
+use Rattle.float.specs.Order.{patternOf}
+use Rattle.value.specs.Meaning.{floatBits, unit, stepOf}
+use Rattle.cmp.specs.Compare.{compareOf, totalOf}
+use Rattle.cmp.specs.Choose.{clampedBy, clampOf}
+use Rattle.convert.specs.Convert.{encodeOf, heldIn, madeIn, intoOf, convertOf}
+use Rattle.record.specs.Record.{lexicalOf, shapesDiffer}
+use Rattle.record.specs.Record as «record»
+use Rattle.key.specs.Key.{bigEndian, keyOf, nanThen, writeOf, writeExit, numberFrom, bytesIn, readFields, readOf}
+use Rattle.demands.specs.Marked.{answerTo, marked, AllAnswered}
+
+pub all-answered : AllAnswered marked
+unfolding answerTo marked classOf scaledOf compareOf totalOf convertOf intoOf madeIn heldIn encodeOf clampOf clampedBy «record».compareOf lexicalOf shapesDiffer
+    writeOf writeExit nanThen keyOf bigEndian readOf readFields bytesIn numberFrom
+    unit stepOf floatBits patternOf magOf absOf positionOf toBits ofBits ofFields odd size span climb isNan
+all-answered = refl

@@ -1,0 +1,3 @@
+pub mod Rules
+pub mod Demand1
+pub mod Marked

@@ -1,0 +1,1 @@
+// The three demands as theorems over the definitions, and the marked cases as one list. No code.
