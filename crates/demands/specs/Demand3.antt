@@ -1,0 +1,39 @@
+-- Demand 3: the bytes of keys order as the records do, and a byte string is a key exactly when some record has it. RULES.md: Keys.
+use Prim.Native.Nat.{ℕ, _≤_, _<_}
+use mathlib.Core.Path.{_≡_}
+use mathlib.Core.Logic.{_↔_}
+use mathlib.Core.List.{List, _++_}
+use lib.ListN.{length, take, drop, getD}
+use Rattle.float.specs.declared.Order.the-variants.{Equal}
+use Rattle.float.specs.Order.{orderN}
+use Rattle.value.specs.Outcome.{gives}
+use Rattle.record.specs.declared.Record.{Record}
+use Rattle.record.specs.declared.Shape.{Shape}
+use Rattle.record.specs.Record.{compareOf}
+use Rattle.key.specs.Key.{writeOf, writeExit, readOf}
+use Rattle.key.specs.Theorem.{Bytes, Usable, OfShape, recordKey, normalRecord}
+
+-- two lists differ at i, and not before
+pub record DifferAt (i : ℕ) (k l : List ℕ) : Type 0 where
+  pub inside : i < length k
+  pub same-before : take i k ≡ take i l
+  pub differ : getD k i 0 ≡ getD l i 0 → ⊥
+
+-- "For two records of one shape, no NaN, room for their keys"
+pub record Demand3 : Type 0 where
+  -- with room for its key a record is written, and the bytes past the key stay
+  pub written : (s : Shape) → Usable s → (r : Record) → OfShape s r → (buffer : List ℕ) → length (recordKey r) ≤ length buffer
+      → (writeOf r (length buffer) ≡ gives (length (recordKey r))) × (writeExit r buffer ≡ recordKey r ++ drop (length (recordKey r)) buffer)
+  -- "the keys are the same bytes exactly when the records compare Equal"
+  pub same-bytes : (s : Shape) → Usable s → (a b : Record) → OfShape s a → OfShape s b → (recordKey a ≡ recordKey b) ↔ (compareOf a b ≡ gives Equal)
+  -- "otherwise the first differing byte orders them as the records are ordered"
+  pub first-byte : (s : Shape) → Usable s → (a b : Record) → OfShape s a → OfShape s b → (recordKey a ≡ recordKey b → ⊥)
+      → (i : ℕ) × DifferAt i (recordKey a) (recordKey b) × (compareOf a b ≡ gives (orderN (getD (recordKey a) i 0) (getD (recordKey b) i 0)))
+  -- "A byte string is accepted as a key of a shape exactly when some such record has it"
+  pub accepted-exactly : (s : Shape) → Usable s → (key : List ℕ) → Bytes key → ((r : Record) × (readOf s key ≡ gives r)) ↔ ((r : Record) × OfShape s r × (recordKey r ≡ key))
+  -- "reading gives that record with minus zero made plus zero and unused places reset"
+  pub read-normal : (s : Shape) → Usable s → (r : Record) → OfShape s r → readOf s (recordKey r) ≡ gives (normalRecord r)
+  -- "and writing that again gives the same bytes"
+  pub same-again : (s : Shape) → Usable s → (r : Record) → OfShape s r → OfShape s (normalRecord r) × (recordKey (normalRecord r) ≡ recordKey r)
+  -- no two byte strings are read as one record
+  pub read-once : (s : Shape) → Usable s → (k l : List ℕ) → Bytes k → Bytes l → (r : Record) → readOf s k ≡ gives r → readOf s l ≡ gives r → k ≡ l
