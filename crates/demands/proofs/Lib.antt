@@ -1,4 +1,7 @@
 pub mod Rules
 pub mod Demand1
+pub mod Floats
+pub mod Choosing
+pub mod Demand2
 pub mod Demand3
 pub mod Marked

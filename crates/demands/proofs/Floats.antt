@@ -1,0 +1,110 @@
+-- The sentence of demand 2 on classes, comparison and total order: of patterns, and of the values that have them.
+use Prim.Native.Nat.{ℕ, _*_, _≤_, _<_}
+use mathlib.Core.Path.{_≡_, refl, sym, _∙_, ap, subst}
+use mathlib.Core.Bool.{Bool, true, false, cond}
+use borrow.Author.Tests.{ltb-true, eqb-true}
+use lib.Dec.{lit≤}
+use lib.IntN.{ℤ}
+use lib.Ieee.{Format, binary32, binary64}
+use Rattle.float.specs.declared.Order.the-variants.{Less, Greater}
+use Rattle.float.specs.Format.{fractionOf, exponentOf, negativeOf, infiniteOf, scaledOf}
+use Rattle.float.specs.Format as float-format
+use Rattle.float.specs.Number.{Number, number, infinityOf, times}
+use Rattle.float.specs.Number as float-number
+use Rattle.float.specs.Order.{orderZ, orderOf, patternOf}
+use Rattle.float.specs.Order as float-order
+use Rattle.float.proofs.Tests.{clash}
+use Rattle.float.proofs.ClassMeaning.{class-means, number-scaled}
+use Rattle.float.proofs.Comparing.{compare-nan-left, compare-nan-right, pattern-infinite}
+use Rattle.float.proofs.Place.{patternAt, pattern-lt, position-pattern, position-injective, position-fits}
+use Rattle.value.specs.declared.Value.{Value}
+use Rattle.value.specs.declared.Value.the-variants.{U8, U16, U32, U64, I8, I16, I32, I64, F32, F64}
+use Rattle.value.specs.Kinds.{float, formOf}
+use Rattle.value.specs.Meaning.{stepOf, bitsOf, exactOf, positionOf}
+use Rattle.value.specs.Outcome.{gives}
+use Rattle.cmp.specs.Compare.{compareOf, totalOf}
+use Rattle.cmp.proofs.Given.{order-compared, order-total}
+use Rattle.cmp.proofs.Numbers.{patterns-order, positions-order}
+use Rattle.laws_cmp.specs.Laws.{OneKind, OneIntegerKind}
+use Rattle.laws_cmp.proofs.Comparison.{values-partial-order}
+use Rattle.laws_cmp.proofs.Integers.{integers-linear-order}
+use Rattle.laws_cmp.proofs.TotalOrder.{other-whole, values-total-order}
+use Rattle.demands.specs.Demand2.{Floats, OfForm, Values}
+
+-- ---- patterns
+
+-- a comparison by what the two patterns stand for
+by-numbers : (p e a b : ℕ) {x y : Number} → float-number.numberOf (patternOf p e a) ≡ x → float-number.numberOf (patternOf p e b) ≡ y → float-order.compareOf p e a b ≡ orderOf x y
+unfolding float-order.compareOf
+by-numbers p e a b h k = cc
+
+infinite-number : (p e b : ℕ) → infiniteOf p e b ≡ true → float-number.numberOf (patternOf p e b) ≡ infinityOf (negativeOf p e b)
+infinite-number p e b h = ap float-number.numberOf (pattern-infinite p e b (eqb-true _ _ h))
+
+outside-left : (s : Bool) (z : ℤ) → orderOf (infinityOf s) (number z) ≡ cond s Less Greater
+outside-left true z = refl
+outside-left false z = refl
+
+outside-right : (s : Bool) (z : ℤ) → orderOf (number z) (infinityOf s) ≡ cond s Greater Less
+outside-right true z = refl
+outside-right false z = refl
+
+pub patterns : (p e : ℕ) → 2 ≤ e → Floats p e
+patterns p e h = record {
+  class-means = λ b. class-means p e b h;
+  nan-left = λ a b n. sym (compare-nan-left p e a b refl (ltb-true _ _ n));
+  nan-right = λ a b n. sym (compare-nan-right p e a b refl (ltb-true _ _ n));
+  infinite-finite = λ a b i f. by-numbers p e a b (infinite-number p e a i) (number-scaled p e b f) ∙ outside-left (negativeOf p e a) (scaledOf p e b);
+  finite-infinite = λ a b f i. by-numbers p e a b (number-scaled p e a f) (infinite-number p e b i) ∙ outside-right (negativeOf p e b) (scaledOf p e a);
+  infinite-infinite = λ a b i j. by-numbers p e a b (infinite-number p e a i) (infinite-number p e b j);
+  finite-finite = λ a b f g. by-numbers p e a b (number-scaled p e a f) (number-scaled p e b g);
+  own-position = position-injective p e;
+  position-fits = position-fits p e;
+  position-reached = λ z m. (patternAt p e z, pattern-lt p e z m, position-pattern p e z m);
+}
+
+pub of-format : (f : Format) → Floats (fractionOf f) (exponentOf f)
+of-format binary32 = patterns 23 8 (lit≤ tt)
+of-format binary64 = patterns 52 11 (lit≤ tt)
+
+-- ---- values
+
+-- what a value of a float kind stands for, and its position, by its bits
+abbrev ByBits : Format → Value → Type 0
+ByBits f v = (exactOf v ≡ times (stepOf f) (patternOf (fractionOf f) (exponentOf f) (bitsOf v))) × (positionOf v ≡ float-format.positionOf (fractionOf f) (exponentOf f) (bitsOf v))
+
+by-bits : (f : Format) (v : Value) → OfForm (float f) v → ByBits f v
+by-bits f (U8 n) q = clash cc
+by-bits f (U16 n) q = clash cc
+by-bits f (U32 n) q = clash cc
+by-bits f (U64 n) q = clash cc
+by-bits f (I8 z) q = clash cc
+by-bits f (I16 z) q = clash cc
+by-bits f (I32 z) q = clash cc
+by-bits f (I64 z) q = clash cc
+by-bits f (F32 x w) q = let g : binary32 ≡ f = cc in subst (λ h. ByBits h (F32 x w)) g (refl, refl)
+by-bits f (F64 x w) q = let g : binary64 ≡ f = cc in subst (λ h. ByBits h (F64 x w)) g (refl, refl)
+
+module _ (f : Format) (a b : Value) (k : OneKind a b) (o : OfForm (float f) a) where
+  other : OfForm (float f) b
+  other = ap formOf (sym k) ∙ o
+
+  floats-compare : compareOf a b ≡ gives (float-order.compareOf (fractionOf f) (exponentOf f) (bitsOf a) (bitsOf b))
+  floats-compare = order-compared a b _ k (cc (by-bits f a o .0, by-bits f b other .0) ∙ sym (patterns-order f (bitsOf a) (bitsOf b)))
+
+  floats-total : totalOf a b ≡ gives (orderZ (float-format.positionOf (fractionOf f) (exponentOf f) (bitsOf a)) (float-format.positionOf (fractionOf f) (exponentOf f) (bitsOf b)))
+  floats-total = order-total a b _ k (cc (by-bits f a o .1, by-bits f b other .1))
+
+integers-compare : (a b : Value) → OneIntegerKind a b → compareOf a b ≡ gives (orderZ (positionOf a) (positionOf b))
+integers-compare a b h = order-compared a b _ (h .1) (positions-order a b (h .0) (other-whole a b (h .1) (h .0)))
+
+pub of-values : Values
+of-values = record {
+  floats-compare = floats-compare;
+  floats-total = floats-total;
+  integers-compare = integers-compare;
+  integers-total = λ a b h. order-total a b _ (h .1) refl;
+  partial-order = values-partial-order;
+  integer-order = integers-linear-order;
+  total-order = values-total-order;
+}
