@@ -7,4 +7,3 @@ pub mod Determined
 pub mod OrderKeys
 pub mod Choice
 pub mod Samples
-pub mod Cases

@@ -1,10 +1,9 @@
-pub mod Cases
 pub mod Binary
 pub mod Encode
 pub mod Patterns
 pub mod Accepted
 pub mod Exactly
-pub mod First
+pub mod Infinities
 pub mod Widening
 pub mod Returning
 pub mod Taken

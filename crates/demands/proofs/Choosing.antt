@@ -9,20 +9,18 @@ use lib.Ieee.{Float, nan, inf, fin, binary32, isNan, toBits}
 use borrow.Author.Tests.{ltb-true}
 use Rattle.float.specs.declared.Order.{Order}
 use Rattle.float.specs.declared.Order.the-variants.{Less, Equal, Greater, Unordered}
-use Rattle.float.specs.Format.{fractionOf, exponentOf, absOf, nanOf, infOf}
-use Rattle.float.specs.Number.{Exact, notNumber}
+use Rattle.float.specs.Format.{absOf, nanOf, infOf}
+use Rattle.float.specs.Number.{notNumber}
 use Rattle.float.specs.Number as float-number
 use Rattle.float.specs.Order.{isLess, isGreater, isLessOrEqual, isUnordered, orderOf, patternOf}
 use Rattle.float.specs.Order as float-order
 use Rattle.float.proofs.Comparing.{pattern-nan}
 use Rattle.float.proofs.Tests.{clash}
-use Rattle.value.specs.declared.Value.{Value}
 use Rattle.value.specs.declared.Value.the-variants.{F32}
-use Rattle.value.specs.Meaning.{floatBits, nanWord, numberOf}
-use Rattle.value.specs.Outcome.{Outcome, gives, refuseIf, mapped}
+use Rattle.value.specs.Meaning.{floatBits, nanWord}
+use Rattle.value.specs.Outcome.{gives, refuseIf, mapped}
 use Rattle.cmp.specs.declared.Range.{Range}
-use Rattle.cmp.specs.Compare.{compareOf}
-use Rattle.cmp.specs.Choose.{valueOrder, sampleOrder, minOf, maxOf, clampedBy, clampOf, sampleOf}
+use Rattle.cmp.specs.Choose.{valueOrder, sampleOrder, clampedBy, clampOf, sampleOf}
 use Rattle.cmp.proofs.Numbers.{patterns-order}
 use Rattle.record.specs.declared.Field.{Field}
 use Rattle.record.specs.declared.Record.{Record}
@@ -35,7 +33,7 @@ use Rattle.laws_cmp.proofs.Choices.{min-by-less, min-by-equal, min-by-greater, 
 use Rattle.laws_cmp.proofs.Fields.{equal-every}
 use Rattle.laws_cmp.proofs.Records.{integer-records-linear-order}
 use Rattle.laws_cmp.proofs.RecordChoices.{record-min-less, record-min-equal, record-min-greater, record-max-less, record-max-equal, record-max-greater}
-use Rattle.demands.specs.Demand2.{Records, Chooses, Clamps, Choosing}
+use Rattle.demands.specs.Demand2.{Records, Choosing}
 
 -- ---- records
 

@@ -2,24 +2,24 @@
 use Prim.Native.Nat.{ℕ, suc}
 use mathlib.Core.Path.{_≡_, refl, sym, _∙_, ap}
 use mathlib.Core.Bool.{Bool, true, false, not, cond, _&&_}
-use mathlib.Core.List.{List, [], _∷_, _++_, map}
+use mathlib.Core.List.{List, [], _∷_, map}
 use lib.Dec.{eqb, ltb}
 use lib.ListN.{length, take, drop}
 use lib.Ieee.{Float}
 use Rattle.float.specs.declared.Order.{Order}
-use Rattle.float.specs.Number.{isNone, Exact}
+use Rattle.float.specs.Number.{isNone}
 use Rattle.float.specs.Order.{isEqual, isNotEqual, isLess, isLessOrEqual, isGreater, isGreaterOrEqual, isUnordered}
 use Rattle.value.specs.declared.Kind.{Kind}
 use Rattle.value.specs.declared.Kind.the-variants as kind
 use Rattle.value.specs.declared.Value.{Value}
 use Rattle.value.specs.declared.Value.the-variants.{U8, U16, F32}
-use Rattle.value.specs.Kinds.{kindOf, kindNumber, Form, formOf}
+use Rattle.value.specs.Kinds.{kindOf, kindNumber, formOf}
 use Rattle.value.specs.Meaning.{exactOf, bitsOf, valueOf}
-use Rattle.value.specs.Outcome.{Outcome, Success, gives, refuses, done, refuseIf, mapped}
+use Rattle.value.specs.Outcome.{Outcome, Success, gives, done, refuseIf, mapped}
 use Rattle.cmp.specs.declared.Range.{Range}
 use Rattle.cmp.specs.Compare.{compareOf, totalOf}
 use Rattle.cmp.specs.Choose.{chosenBy, minOf, maxOf, clampedBy, clampOf, rangeOf, sampleOf, valueOrder, sampleOrder}
-use Rattle.convert.specs.Convert.{isInteger, rulesOf, intoOf, madeIn, convertOf}
+use Rattle.convert.specs.Convert.{intoOf, madeIn, convertOf}
 use Rattle.row.specs.Row.{sampleThen, rowAnswer, rowResults, rowExit}
 use Rattle.row.specs.Convert.{floatOf, u8ToU16, u16ToU8, u16ToF32, f32ToU16, convertAnswer, convertExit}
 use Rattle.row.specs.Clamp.{clampAnswer, clampExit}

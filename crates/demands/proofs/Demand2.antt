@@ -1,11 +1,11 @@
 -- Demand 2, from the laws of each floor.
-use mathlib.Core.Path.{_≡_, ap}
+use mathlib.Core.Path.{_≡_}
 use Rattle.value.specs.declared.Kind.{Kind}
 use Rattle.value.specs.declared.Value.{Value}
 use Rattle.value.specs.Kinds.{kindOf, kindNumber}
 use Rattle.value.proofs.KindNumbers.{number-injective}
 use Rattle.convert.proofs.Exactly.{same-kind, sound, exactly, kept}
-use Rattle.convert.proofs.First.{nan-never, infinity-refused, infinity-passes}
+use Rattle.convert.proofs.Infinities.{nan-never, infinity-refused, infinity-passes}
 use Rattle.demands.specs.Demand2.{Other, Conversion, Demand2}
 use Rattle.demands.proofs.Floats.{of-format, of-values}
 use Rattle.demands.proofs.Choosing.{of-records, of-choosing}

@@ -1,6 +1,4 @@
 -- Demand 3, from the laws of keys.
-use mathlib.Core.Path.{_≡_}
-use Rattle.key.specs.Theorem.{OfShape, Usable}
 use Rattle.key.proofs.FieldLists.{key-bytes}
 use Rattle.key.proofs.Demand3.{same-key, first-byte, written, buffer-written, read-of-written, written-of-read, accepted-exactly, read-same}
 use Rattle.demands.specs.Demand3.{Demand3}

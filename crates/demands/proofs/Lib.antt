@@ -4,4 +4,5 @@ pub mod Floats
 pub mod Choosing
 pub mod Demand2
 pub mod Demand3
+pub mod Determined
 pub mod Marked

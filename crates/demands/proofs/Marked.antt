@@ -1,5 +1,5 @@
 -- The marked cases hold of the rules: the definitions, computed on each, give the list's own answers.
-use mathlib.Core.Path.{_≡_, refl}
+use mathlib.Core.Path.{refl}
 use lib.Ieee.{toBits, ofBits, ofFields, odd, size, span, climb, isNan}
 use Rattle.float.specs.Format.{absOf, classOf, magOf, scaledOf, positionOf}
 use Rattle.float.specs.Order.{patternOf}

@@ -1,8 +1,8 @@
 -- Demand 1: every call answers by its rules, in their order, and no lent buffer has changed after a refusal. RULES.md: Refusals.
 -- A call of the code answers its definition, for any input (its contract); so what is said here of the definitions is said of the calls.
-use Prim.Native.Nat.{ℕ, _/_}
+use Prim.Native.Nat.{ℕ}
 use mathlib.Core.Path.{_≡_}
-use mathlib.Core.Bool.{Bool, true, not, _||_, _&&_}
+use mathlib.Core.Bool.{Bool, not, _||_, _&&_}
 use mathlib.Core.List.{List, [], _∷_}
 use lib.Dec.{eqb, ltb}
 use lib.ListN.{length, take, drop}

@@ -7,7 +7,7 @@ use mathlib.Core.List.{List, _∷_, _++_}
 use lib.IntN.{ℤ}
 use lib.Signed.{mag}
 use lib.ListN.{length}
-use lib.Ieee.{Float, Format, binary32, toBits}
+use lib.Ieee.{Float, Format}
 use Rattle.float.specs.declared.Order.{Order}
 use Rattle.float.specs.declared.Order.the-variants.{Less, Equal, Greater, Unordered}
 use Rattle.float.specs.Format.{fractionOf, exponentOf, signOf, negativeOf, finiteOf, infiniteOf, nanOf, classOf, scaledOf}

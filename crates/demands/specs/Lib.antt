@@ -2,4 +2,5 @@ pub mod Rules
 pub mod Demand1
 pub mod Demand2
 pub mod Demand3
+pub mod Determined
 pub mod Marked

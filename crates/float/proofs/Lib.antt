@@ -8,7 +8,6 @@ pub mod SameNumber
 pub mod Language
 pub mod Operators
 pub mod ClassMeaning
-pub mod Cases
 pub mod Turned
 pub mod Transitive
 pub mod Agreement

@@ -2,7 +2,7 @@
 use mathlib.Core.Path.{_≡_, refl, sym, ap, _∙_, subst}
 use mathlib.Core.Logic.{_↔_}
 use mathlib.Core.Bool.{false, not}
-use mathlib.Core.List.{List, [], _∷_, _++_}
+use mathlib.Core.List.{List, _++_}
 use Prim.Native.Nat.{ℕ, zero, suc, _-_, _≤_, _<_}
 use native.Mathlib.Omega.{arith}
 use borrow.Author.Tests.{eq-eqb, ne-eqb, le-ltb, eqb-true, eqb-false, ltb-false, not-false}
@@ -11,17 +11,18 @@ use lib.ListN.{length, take, drop, getD, replicate, length-append, length-replic
 use lib.Seq.{take-at, length-take-le}
 use Rattle.float.specs.declared.Order.the-variants.{Equal}
 use Rattle.float.specs.Order.{orderN}
-use Rattle.float.proofs.Tests.{neither, clash}
+use Rattle.float.proofs.Tests.{neither}
 use Rattle.value.specs.declared.Kind.{Kind}
 use Rattle.value.specs.declared.Value.the-variants.{U8}
-use Rattle.value.specs.Kinds.{kindOf, kindNumber}
+use Rattle.value.specs.Kinds.{kindOf}
 use Rattle.value.specs.Outcome.{Outcome, gives, mapped}
 use Rattle.value.proofs.Outcomes.{refuse-passes}
 use Rattle.record.specs.declared.Field.{Field}
 use Rattle.record.specs.declared.Place.{Place}
 use Rattle.record.specs.declared.Record.{Record}
 use Rattle.record.specs.declared.Shape.{Shape}
-use Rattle.record.specs.Record.{fieldFor, fieldsOf, badCount, lexicalOf, shapesDiffer, compareOf, kindsIn, kindsOf, recordOf}
+use Rattle.record.specs.Record.{fieldFor, fieldsOf, badCount, lexicalOf, compareOf, kindsIn, kindsOf, recordOf}
+use Rattle.record.proofs.Given.{kinds-shape}
 use Rattle.key.specs.Key.{keyOf, nanThen, writeOf, bufferAfter, writeExit, bytesIn, readFields, readOf}
 use Rattle.key.specs.Prefix.{bytesOrder}
 use Rattle.key.specs.Theorem.{Bytes, AllKeyed, none, more, normalRecord, recordKey, Usable, OfShape}
@@ -55,23 +56,13 @@ record-length s r h = key-length (fieldsOf r) ∙ ap bytesIn (h .kinds-are)
 
 -- ---- the order
 
-shapes-same : (xs ys : List Field) → kindsOf xs ≡ kindsOf ys → shapesDiffer xs ys ≡ false
-unfolding shapesDiffer
-shapes-same [] [] q = refl
-shapes-same [] (y ∷ ys) q = clash cc
-shapes-same (x ∷ xs) [] q = clash cc
-shapes-same (x ∷ xs) (y ∷ ys) q =
-    let k : kindOf (x .value) ≡ kindOf (y .value) = cc in
-    let r : kindsOf xs ≡ kindsOf ys = cc in
-    rw (eq-eqb (kindNumber (kindOf (x .value))) (kindNumber (kindOf (y .value))) (ap kindNumber k)) (shapes-same xs ys r)
-
 module _ (s : Shape) (a b : Record) (u : Usable s) (h : OfShape s a) (k : OfShape s b) where
   -- the records compare as their keys do, at the first byte that differs
   pub records-order : compareOf a b ≡ gives (bytesOrder (recordKey a) (recordKey b))
   unfolding compareOf
   records-order =
       let q : kindsOf (fieldsOf a) ≡ kindsOf (fieldsOf b) = h .kinds-are ∙ sym (k .kinds-are) in
-      rw (record-count s a u h, record-count s b u k, shapes-same (fieldsOf a) (fieldsOf b) q) (ap gives (sym (keys-order (h .keyed) (k .keyed) q)))
+      rw (record-count s a u h, record-count s b u k, kinds-shape (fieldsOf a) (fieldsOf b) q) (ap gives (sym (keys-order (h .keyed) (k .keyed) q)))
 
   -- the same bytes exactly when they compare Equal
   pub same-key : (recordKey a ≡ recordKey b) ↔ (compareOf a b ≡ gives Equal)

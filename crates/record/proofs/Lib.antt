@@ -4,5 +4,4 @@ pub mod Deciding
 pub mod OneShape
 pub mod Shaping
 pub mod Determined
-pub mod Cases
 pub mod Given
