@@ -115,12 +115,20 @@ samples range x u v w =
 pub of-choosing : Choosing
 of-choosing = record {
   values = record {
-    min-less = min-by-less; min-equal = min-by-equal; min-greater = min-by-greater;
-    max-less = max-by-less; max-equal = max-by-equal; max-greater = max-by-greater;
+    min-less = min-by-less;
+    min-equal = min-by-equal;
+    min-greater = min-by-greater;
+    max-less = max-by-less;
+    max-equal = max-by-equal;
+    max-greater = max-by-greater;
   };
   records = record {
-    min-less = record-min-less; min-equal = record-min-equal; min-greater = record-min-greater;
-    max-less = record-max-less; max-equal = record-max-equal; max-greater = record-max-greater;
+    min-less = record-min-less;
+    min-equal = record-min-equal;
+    min-greater = record-min-greater;
+    max-less = record-max-less;
+    max-equal = record-max-equal;
+    max-greater = record-max-greater;
   };
   clamps = λ v lower upper bounds low high w l u b n. record {
     below = clamp-below v lower upper w l u b n;

@@ -37,7 +37,7 @@ use Rattle.demands.proofs.Rules.{chain, by-chain, chain-join, chain-map
 
 own-or-other : {A : Type 0} (same r s t u v : Bool) (own other : A)
     → cond same (gives own) (refuseIf r 1 0 (refuseIf s 2 0 (refuseIf t 3 0 (refuseIf u 4 0 (refuseIf v 5 0 (gives other))))))
-        ≡ chain (rule 1 0 (not same && r) ∷ rule 2 0 (not same && s) ∷ rule 3 0 (not same && t) ∷ rule 4 0 (not same && u) ∷ rule 5 0 (not same && v) ∷ []) (gives (cond same own other))
+    ≡ chain (rule 1 0 (not same && r) ∷ rule 2 0 (not same && s) ∷ rule 3 0 (not same && t) ∷ rule 4 0 (not same && u) ∷ rule 5 0 (not same && v) ∷ []) (gives (cond same own other))
 own-or-other true r s t u v own other = refl
 own-or-other false r s t u v own other = refl
 

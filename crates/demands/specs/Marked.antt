@@ -107,8 +107,7 @@ marked =
     ∷ case 11 (clamp (f32 0x8000_0000) (f32 0x0000_0000) (f32 0x3f80_0000)) (a-value (gives (f32 0x8000_0000)))
     ∷ case 12 (compare-records (U8 1 ∷ f32 0x7fc0_0000 ∷ []) (U8 2 ∷ f32 0x7fc0_0000 ∷ [])) (an-order (gives Less))
     ∷ case 12 (compare-records (U8 1 ∷ f32 0x7fc0_0000 ∷ []) (U8 1 ∷ f32 0x0000_0000 ∷ [])) (an-order (gives Unordered))
-    ∷ case 13 (write-key (U16 258 ∷ I16 (negsuc 0) ∷ f32 0xbf80_0000 ∷ []) 8)
-        (a-key (gives 8) (0x01 ∷ 0x02 ∷ 0x7f ∷ 0xff ∷ 0x40 ∷ 0x7f ∷ 0xff ∷ 0xff ∷ []))
+    ∷ case 13 (write-key (U16 258 ∷ I16 (negsuc 0) ∷ f32 0xbf80_0000 ∷ []) 8) (a-key (gives 8) (0x01 ∷ 0x02 ∷ 0x7f ∷ 0xff ∷ 0x40 ∷ 0x7f ∷ 0xff ∷ 0xff ∷ []))
     ∷ case 14 (write-key (f32 0x8000_0000 ∷ []) 4) (a-key (gives 4) (0x80 ∷ 0x00 ∷ 0x00 ∷ 0x00 ∷ []))
     ∷ case 14 (read-key (kind.F32 ∷ []) (0x7f ∷ 0xff ∷ 0xff ∷ 0xff ∷ [])) (a-record (refuses 12 0))
     ∷ []
