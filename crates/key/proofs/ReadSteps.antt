@@ -1,15 +1,17 @@
 -- The passes over a shape's kinds: the bytes of a key counted, and the fields read one after the other into a blank record; and what reading then answers.
 use mathlib.Core.Path.{_≡_, refl, sym, _∙_, ap}
-use mathlib.Core.Bool.{Bool, true, false}
+use mathlib.Core.Bool.{Bool, true, false, not}
 use mathlib.Core.List.{List, [], _∷_, _++_, append-assoc}
 use Prim.Native.Nat.{ℕ, zero, suc, _+_, _-_, _*_, _≤_, _<_}
 use native.Mathlib.Nat.{zero-add, add-zero}
 use native.Mathlib.Numerals.{add-one}
 use native.Mathlib.Omega.{arith}
 use borrow.Author.Tests.{eq-eqb, ne-eqb}
+use lib.Dec.{eqb}
 use lib.ListN.{length, take, drop, getD, set, replicate, length-map, length-set, take-append-drop, drop-of-length-le, List·getD-map}
 use lib.Seq.{take-suc, take-all, drop-cons, drop-drop, drop-set-lt, take-suc-set, getD-take, length-take-le}
 use Rattle.float.proofs.Tests.{clash}
+use Rattle.value.proofs.Outcomes.{refuse-passes}
 use Rattle.value.specs.declared.Kind.{Kind}
 use Rattle.value.specs.declared.Value.{Value}
 use Rattle.value.specs.declared.Value.the-variants.{U8}
@@ -22,10 +24,12 @@ use Rattle.record.specs.declared.Record.{Record}
 use Rattle.record.specs.declared.Recorded.{Recorded}
 use Rattle.record.specs.declared.Shape.{Shape}
 use Rattle.record.specs.Record.{fieldFor, blank, badCount, kindsIn, recordOf, recordedOf}
+use Rattle.record.proofs.Deciding.{good-count}
 use Rattle.record.proofs.Shape as shape-type
 use Rattle.key.specs.declared.Layout.{Layout}
 use Rattle.key.specs.Key.{bytesOf, numberFrom, bitsFrom, notCanonical, bytesIn, readFields, readOf}
 use Rattle.key.specs.Steps.{layoutFor, bitsIn, foreignIn}
+use Rattle.key.proofs.Passing.{mapped-gives}
 use Rattle.key.proofs.Ranges.{kind-sized}
 use Rattle.key.proofs.KeyNumbers.{form-bits, form-foreign}
 
@@ -209,3 +213,13 @@ module _ (s : Shape) (key : List ℕ) {t : Bool} (count-is : t ≡ badCount (s .
       omega arith,
       few,
     )
+
+-- what was read has as many fields as the shape has kinds
+pub read-count : (s : Shape) (key : List ℕ) (r : Record) → length (s .places) ≡ 12 → readOf s key ≡ gives r → (r .count ≡ s .count) × (s .count ≤ 12)
+unfolding readOf
+read-count s key r twelve e =
+    let past-11 = refuse-passes (badCount (s .count)) 11 0 _ r e in
+    let past-9 = refuse-passes (not (eqb (length key) (bytesIn (kindsIn s)))) 9 0 _ r (past-11 .1) in
+    let m = mapped-gives recordOf (readFields 0 (kindsIn s) key) (past-9 .1) in
+    let few = good-count (s .count) (past-11 .0) in
+    (sym (ap (λ (q : Record). q .count) (m .2)) ∙ read-length 0 (kindsIn s) key (m .0) (m .1) ∙ count-kinds s few twelve, few)

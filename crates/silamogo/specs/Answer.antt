@@ -1,13 +1,60 @@
--- Outcomes and ranges as the numbers that pass the boundary.
+-- Outcomes and ranges as the numbers that pass the boundary: after a refusal its number and its place, and 0 for what a call would give.
+use Prim.Native.Nat.{ℕ}
 use lib.Ieee.{Float}
+use lib.IntN.{ℤ, pos}
+use Rattle.float.specs.declared.Order.{Order}
+use Rattle.float.specs.declared.Order.the-variants.{Less, Equal, Greater, Unordered}
+use Rattle.float.specs.declared.Class.{Class}
+use Rattle.float.specs.declared.Class.the-variants.{Zero, Subnormal, Normal, Infinite, Nan}
+use Rattle.value.specs.declared.Value.{Value}
+use Rattle.value.specs.Kinds.{kindOf, kindNumber}
+use Rattle.value.specs.Meaning.{bitsOf}
 use Rattle.value.specs.Outcome.{Outcome, gives, refuses, Success}
 use Rattle.cmp.specs.declared.Range.{Range}
 use Rattle.silamogo.specs.declared.Answer.{Answer}
+use Rattle.silamogo.specs.declared.Ordered.{Ordered}
+use Rattle.silamogo.specs.declared.Classed.{Classed}
+use Rattle.silamogo.specs.declared.Placed.{Placed}
+use Rattle.silamogo.specs.declared.Sampled.{Sampled}
+use Rattle.silamogo.specs.declared.Measured.{Measured}
 
 -- the number and the place of a refusal, 0 and 0 for success
 abbrev pub answerOf : Outcome Success → Answer
 answerOf (gives d) = record { number = 0; place = 0 }
 answerOf (refuses number place) = record { number = number; place = place }
+
+abbrev pub orderNumber : Order → ℕ
+orderNumber Less = 0
+orderNumber Equal = 1
+orderNumber Greater = 2
+orderNumber Unordered = 3
+
+abbrev pub orderedOf : Outcome Order → Ordered
+orderedOf (gives o) = record { number = 0; place = 0; order = orderNumber o }
+orderedOf (refuses number place) = record { number = number; place = place; order = 0 }
+
+abbrev pub classNumber : Class → ℕ
+classNumber Zero = 0
+classNumber Subnormal = 1
+classNumber Normal = 2
+classNumber Infinite = 3
+classNumber Nan = 4
+
+abbrev pub classedOf : Outcome Class → Classed
+classedOf (gives c) = record { number = 0; place = 0; class = classNumber c }
+classedOf (refuses number place) = record { number = number; place = place; class = 0 }
+
+abbrev pub placedOf : Outcome ℤ → Placed
+placedOf (gives z) = record { number = 0; place = 0; position = z }
+placedOf (refuses number place) = record { number = number; place = place; position = pos 0 }
+
+abbrev pub sampledOf : Outcome Value → Sampled
+sampledOf (gives v) = record { number = 0; place = 0; kind = kindNumber (kindOf v); bits = bitsOf v }
+sampledOf (refuses number place) = record { number = number; place = place; kind = 0; bits = 0 }
+
+abbrev pub measuredOf : Outcome ℕ → Measured
+measuredOf (gives n) = record { number = 0; place = 0; length = n }
+measuredOf (refuses number place) = record { number = number; place = place; length = 0 }
 
 abbrev pub boundsOf : Float → Float → Range
 boundsOf lower upper = record { lower = lower; upper = upper }

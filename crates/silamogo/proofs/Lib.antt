@@ -1,0 +1,5 @@
+pub mod Widths
+pub mod Padding
+pub mod Pairs
+pub mod Filling
+pub mod RecordRules

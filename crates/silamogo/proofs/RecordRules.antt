@@ -1,0 +1,165 @@
+-- The rules before a record's own call: the first that holds refuses, and past them the library answers.
+use mathlib.Core.Path.{_≡_, refl, sym, _∙_, ap}
+use mathlib.Core.Bool.{Bool, true, false, not, _||_}
+use mathlib.Core.List.{List, map}
+use Prim.Native.Nat.{ℕ, _≤_, _<_}
+use lib.Dec.{eqb, ltb}
+use lib.ListN.{length}
+use borrow.Author.Tests.{lt-ltb, le-ltb, eq-eqb, ne-eqb, eqb-true}
+use Rattle.float.specs.declared.Order.{Order}
+use Rattle.value.specs.declared.Refusal.{Refusal}
+use Rattle.value.specs.Outcome.{Outcome, gives, refuses, refuseIf}
+use Rattle.record.specs.declared.Record.{Record}
+use Rattle.record.specs.declared.Recorded.{Recorded}
+use Rattle.record.specs.declared.Shape.{Shape}
+use Rattle.record.specs.declared.Made.the-variants as made
+use Rattle.record.specs.Record.{fieldsOf, compareOf, recordedOf}
+use Rattle.float.proofs.Tests.{neither}
+use Rattle.key.specs.declared.Written.{Written}
+use Rattle.key.specs.declared.Written.the-variants as written
+use Rattle.key.specs.Key.{writtenOutcome, writeOf, writeExit, readOf}
+use Rattle.key.proofs.ReadSteps.{read-count}
+use Rattle.silamogo.specs.declared.Answer.{Answer}
+use Rattle.silamogo.specs.Answer.{answerOf}
+use Rattle.silamogo.specs.Samples.{anyUnnamed, firstWide}
+use Rattle.silamogo.specs.Records.{samplesOf, recordFor, shapeFor, fieldBits, uneven, recordsOrder, keyLength, keyExit, recordRead, readExit, recordedOutcome, Room, successOf, bitsAfter}
+use Rattle.silamogo.proofs.Pairs.{pairs-length}
+use Rattle.silamogo.proofs.Filling.{shape-places}
+
+not-false : (t : Bool) → not t ≡ false → t ≡ true
+not-false true h = refl
+not-false false h = sym h
+
+even-lengths : (ns bs : List ℕ) → uneven ns bs ≡ false → length ns ≡ length bs
+even-lengths ns bs h = eqb-true (length ns) (length bs) (not-false _ h)
+
+pub even-both : (ns xs ms ys : List ℕ) → (uneven ns xs || uneven ms ys) ≡ false → (length ns ≡ length xs) × (length ms ≡ length ys)
+even-both ns xs ms ys h = let p = neither (uneven ns xs) (uneven ms ys) h in (even-lengths ns xs (p .0), even-lengths ms ys (p .1))
+
+-- the test of bits by the index that was found
+module _ (ns bs : List ℕ) (even : length ns ≡ length bs) {i : ℕ} (i-is : i ≡ firstWide (samplesOf ns bs)) where
+  wide-test : ltb (firstWide (samplesOf ns bs)) (length (samplesOf ns bs)) ≡ ltb i (length ns)
+  wide-test = rw (pairs-length ns bs even, ← i-is)
+
+  pub wide-stop : {A : Type 0} (next : Outcome A) → i < length ns → refuses 4 i ≡ refuseIf (ltb (firstWide (samplesOf ns bs)) (length (samplesOf ns bs))) 4 (firstWide (samplesOf ns bs)) next
+  wide-stop next h = rw (wide-test, lt-ltb i (length ns) h, ← i-is)
+
+  pub wide-past : {A : Type 0} (next : Outcome A) → length ns ≤ i → refuseIf (ltb (firstWide (samplesOf ns bs)) (length (samplesOf ns bs))) 4 (firstWide (samplesOf ns bs)) next ≡ next
+  wide-past next h = rw (wide-test, le-ltb i (length ns) h)
+
+-- ---- comparison
+
+module _ (ns xs ms ys : List ℕ) {s t : Bool} (s-is : s ≡ anyUnnamed ns) (t-is : t ≡ anyUnnamed ms) where
+  pub order-unnamed : (s || t) ≡ true → refuses 7 0 ≡ recordsOrder ns xs ms ys
+  unfolding recordsOrder
+  order-unnamed h = rw (← s-is, ← t-is, h)
+
+  module _ (named : (s || t) ≡ false) where
+    pub order-uneven : (uneven ns xs || uneven ms ys) ≡ true → refuses 9 0 ≡ recordsOrder ns xs ms ys
+    unfolding recordsOrder
+    order-uneven h = rw (← s-is, ← t-is, named, h)
+
+    module _ (even : (uneven ns xs || uneven ms ys) ≡ false) where
+      abbrev both : (length ns ≡ length xs) × (length ms ≡ length ys)
+      both = even-both ns xs ms ys even
+
+      module _ {i : ℕ} (i-is : i ≡ firstWide (samplesOf ns xs)) where
+        pub order-first-wide : i < length ns → refuses 4 i ≡ recordsOrder ns xs ms ys
+        unfolding recordsOrder
+        order-first-wide h = rw (← s-is, ← t-is, named, even) (wide-stop ns xs (both .0) i-is _ h)
+
+        module _ (first : length ns ≤ i) {j : ℕ} (j-is : j ≡ firstWide (samplesOf ms ys)) where
+          pub order-second-wide : j < length ms → refuses 4 j ≡ recordsOrder ns xs ms ys
+          unfolding recordsOrder
+          order-second-wide h = rw (← s-is, ← t-is, named, even) (wide-stop ms ys (both .1) j-is _ h ∙ sym (wide-past ns xs (both .0) i-is _ first))
+
+          pub order-given : length ms ≤ j → {a b : Record} → a ≡ recordFor (samplesOf ns xs) → b ≡ recordFor (samplesOf ms ys) → compareOf a b ≡ recordsOrder ns xs ms ys
+          unfolding recordsOrder
+          order-given second p q = rw (p, q, ← s-is, ← t-is, named, even) (sym (wide-past ns xs (both .0) i-is _ first ∙ wide-past ms ys (both .1) j-is _ second))
+
+-- ---- writing a key
+
+module _ (ns bs old : List ℕ) where
+  -- what a refusal answers and leaves
+  abbrev pub Left : Written → List ℕ → Type 0
+  Left w new = (writtenOutcome w ≡ keyLength ns bs (length old)) × (new ≡ keyExit ns bs old)
+
+  refused-so : {n p : ℕ} {w : Written} → w ≡ written.Refused (record { number = n; place = p }) → refuses n p ≡ keyLength ns bs (length old) → Left w old
+  unfolding keyExit
+  refused-so q h = (ap writtenOutcome q ∙ h, rw (← h))
+
+  module _ {s : Bool} (s-is : s ≡ anyUnnamed ns) where
+    pub write-unnamed : s ≡ true → {w : Written} → w ≡ written.Refused (record { number = 7; place = 0 }) → Left w old
+    unfolding keyLength
+    write-unnamed h q = refused-so q (rw (← s-is, h))
+
+    module _ (named : s ≡ false) where
+      pub write-uneven : (length ns ≡ length bs → ⊥) → {w : Written} → w ≡ written.Refused (record { number = 9; place = 0 }) → Left w old
+      unfolding keyLength
+      write-uneven h q = refused-so q (rw (← s-is, named, ne-eqb (length ns) (length bs) h))
+
+      module _ (even : length ns ≡ length bs) {i : ℕ} (i-is : i ≡ firstWide (samplesOf ns bs)) where
+        pub write-wide : i < length ns → {w : Written} → w ≡ written.Refused (record { number = 4; place = i }) → Left w old
+        unfolding keyLength
+        write-wide h q = refused-so q (rw (← s-is, named, eq-eqb (length ns) (length bs) even) (wide-stop ns bs even i-is _ h))
+
+        pub write-given : length ns ≤ i → {r : Record} → r ≡ recordFor (samplesOf ns bs) → (w : Written) (new : List ℕ)
+            → (writtenOutcome w ≡ writeOf r (length old)) × (new ≡ writeExit r old) → Left w new
+        unfolding keyLength keyExit writeExit
+        write-given h q w new e =
+            let past : writeOf (recordFor (samplesOf ns bs)) (length old) ≡ keyLength ns bs (length old) = rw (← s-is, named, eq-eqb (length ns) (length bs) even) (sym (wide-past ns bs even i-is _ h)) in
+            (rw q at (e .0) ∙ past, rw q at (e .1) ∙ rw (← past))
+
+-- ---- reading a key
+
+pub recorded-back : (o : Outcome Record) → recordedOutcome (recordedOf o) ≡ o
+recorded-back (gives r) = refl
+recorded-back (refuses n p) = refl
+
+module _ (x : Recorded) (old : List ℕ) where
+  module _ (q : x .outcome ≡ made.Done) where
+    pub done-room : {n : ℕ} → Room (recordedOutcome x) n → (x .«record» .count ≤ 12) × (n ≡ x .«record» .count)
+    done-room h = rw q at h
+
+    pub done-bits : (new : List ℕ) → new ≡ map fieldBits (fieldsOf (x .«record»))
+        → (_≡_ {A = Answer} (record { number = 0; place = 0 }) (answerOf (successOf (recordedOutcome x)))) × (new ≡ bitsAfter (recordedOutcome x) old)
+    done-bits new e = (rw q, rw q e)
+
+  pub refused-bits : (f : Refusal) → x .outcome ≡ made.Refused f
+      → (_≡_ {A = Answer} (record { number = f .number; place = f .place }) (answerOf (successOf (recordedOutcome x)))) × (old ≡ bitsAfter (recordedOutcome x) old)
+  refused-bits f q = (rw q, rw q)
+
+module _ (ns key old : List ℕ) where
+  abbrev pub Read : Answer → List ℕ → Type 0
+  Read a new = (a ≡ answerOf (successOf (recordRead ns key (length old)))) × (new ≡ readExit ns key old)
+
+  read-so : {n p : ℕ} {a : Answer} → a ≡ answerOf (refuses n p) → refuses n p ≡ recordRead ns key (length old) → Read a old
+  unfolding readExit
+  read-so q h = (rw (← h) q, rw (← h))
+
+  module _ {s : Bool} (s-is : s ≡ anyUnnamed ns) where
+    pub read-unnamed : s ≡ true → {a : Answer} → a ≡ answerOf (refuses 7 0) → Read a old
+    unfolding recordRead
+    read-unnamed h q = read-so q (rw (← s-is, h))
+
+    module _ (named : s ≡ false) where
+      pub read-uneven : (length ns ≡ length old → ⊥) → {a : Answer} → a ≡ answerOf (refuses 9 0) → Read a old
+      unfolding recordRead
+      read-uneven h q = read-so q (rw (← s-is, named, ne-eqb (length ns) (length old) h))
+
+      module _ (even : length ns ≡ length old) {sh : Shape} (sh-is : sh ≡ shapeFor ns) {x : Recorded} (x-is : x ≡ recordedOf (readOf sh key)) where
+        said : recordedOutcome x ≡ readOf (shapeFor ns) key
+        said = rw (x-is, sh-is) (recorded-back (readOf (shapeFor ns) key))
+
+        pub read-room : Room (recordedOutcome x) (length old)
+        read-room = rw said (go (readOf (shapeFor ns) key) refl)
+          where
+            go : (o : Outcome Record) → readOf (shapeFor ns) key ≡ o → Room o (length old)
+            go (gives r) e = let q = read-count (shapeFor ns) key r (shape-places ns) e in (rw (← q .0) at (q .1), sym even ∙ sym (q .0))
+            go (refuses n p) e = tt
+
+        pub read-given : (a : Answer) (new : List ℕ) → (a ≡ answerOf (successOf (recordedOutcome x))) × (new ≡ bitsAfter (recordedOutcome x) old) → Read a new
+        unfolding recordRead readExit
+        read-given a new e =
+            let past : readOf (shapeFor ns) key ≡ recordRead ns key (length old) = rw (← s-is, named, eq-eqb (length ns) (length old) even) in
+            (rw said at (e .0) ∙ rw (← past), rw said at (e .1) ∙ rw (← past))

@@ -1,0 +1,118 @@
+-- Records and keys as they pass the boundary: a list of kind numbers and a list of bits. RULES.md: The boundary.
+use Prim.Native.Nat.{ℕ, zero, suc, _≤_}
+use mathlib.Core.Path.{_≡_}
+use mathlib.Core.Bool.{Bool, not, _||_}
+use mathlib.Core.List.{List, [], _∷_, map}
+use lib.Dec.{eqb}
+use lib.ListN.{length}
+use Rattle.float.specs.declared.Order.{Order}
+use Rattle.value.specs.declared.Kind.the-variants as kind
+use Rattle.value.specs.declared.Value.the-variants.{U8}
+use Rattle.value.specs.Meaning.{bitsOf}
+use Rattle.value.specs.Outcome.{Outcome, gives, refuses, refuseIf, refusalOf, Success, done, mapped}
+use Rattle.record.specs.declared.Field.{Field}
+use Rattle.record.specs.declared.Place.{Place}
+use Rattle.record.specs.declared.Record.{Record}
+use Rattle.record.specs.declared.Shape.{Shape}
+use Rattle.record.specs.declared.Recorded.{Recorded}
+use Rattle.record.specs.declared.Made.{Made}
+use Rattle.record.specs.declared.Made.the-variants as made
+use Rattle.record.specs.Record.{fieldFor, fieldsOf, placeFor, compareOf}
+use Rattle.key.specs.Key.{keyOf, writeOf, bufferAfter, readOf}
+use Rattle.silamogo.specs.declared.Sample.{Sample}
+use Rattle.silamogo.specs.Samples.{anyUnnamed, kindFor, valueFor, namedThen, bitsThen}
+
+-- ---- what two lists stand for
+
+abbrev pub sampleFor : ℕ → ℕ → Sample
+sampleFor number bits = record { kind = number; bits = bits }
+
+-- kind numbers and bits, pair by pair
+unfoldable pub samplesOf : List ℕ → List ℕ → List Sample
+samplesOf [] bs = []
+samplesOf (n ∷ ns) [] = []
+samplesOf (n ∷ ns) (b ∷ bs) = sampleFor n b ∷ samplesOf ns bs
+
+-- a number of places: the first of a list, and behind its end a filler
+unfoldable pub padded : {A : Type 0} → ℕ → A → List A → List A
+padded zero none xs = []
+padded (suc n) none [] = none ∷ padded n none []
+padded (suc n) none (x ∷ xs) = x ∷ padded n none xs
+
+-- the count is the number of fields, above 12 too; twelve places hold the first of them, and u8 0 behind
+abbrev pub fieldIn : Sample → Field
+fieldIn s = fieldFor (valueFor s)
+
+abbrev pub recordFor : List Sample → Record
+recordFor ss = record { fields = padded 12 (fieldFor (U8 0)) (map fieldIn ss); count = length ss }
+
+abbrev pub placeIn : ℕ → Place
+placeIn n = placeFor (kindFor n)
+
+abbrev pub shapeFor : List ℕ → Shape
+shapeFor ns = record { places = padded 12 (placeFor kind.U8) (map placeIn ns); count = length ns }
+
+abbrev pub fieldBits : Field → ℕ
+fieldBits f = bitsOf (f .value)
+
+-- ---- the rules before a call's own
+
+-- 9: two lists that differ in length
+abbrev pub uneven : List ℕ → List ℕ → Bool
+uneven ns bs = not (eqb (length ns) (length bs))
+
+-- ---- the calls
+
+unfoldable pub recordsOrder : List ℕ → List ℕ → List ℕ → List ℕ → Outcome Order
+recordsOrder ns xs ms ys =
+    refuseIf (anyUnnamed ns || anyUnnamed ms) 7 0
+    (refuseIf (uneven ns xs || uneven ms ys) 9 0
+    (bitsThen (samplesOf ns xs)
+    (bitsThen (samplesOf ms ys)
+    (compareOf (recordFor (samplesOf ns xs)) (recordFor (samplesOf ms ys))))))
+
+-- into a buffer of `room` bytes
+unfoldable pub keyLength : List ℕ → List ℕ → ℕ → Outcome ℕ
+keyLength ns bs room =
+    namedThen ns
+    (refuseIf (uneven ns bs) 9 0
+    (bitsThen (samplesOf ns bs)
+    (writeOf (recordFor (samplesOf ns bs)) room)))
+
+-- the buffer at the end: the key and what stood behind it, or after a refusal what it was
+unfoldable pub keyExit : List ℕ → List ℕ → List ℕ → List ℕ
+keyExit ns bs old = bufferAfter (keyLength ns bs (length old)) (keyOf (fieldsOf (recordFor (samplesOf ns bs)))) old
+
+-- into a lent row of `room` bits
+unfoldable pub recordRead : List ℕ → List ℕ → ℕ → Outcome Record
+recordRead ns key room =
+    namedThen ns
+    (refuseIf (not (eqb (length ns) room)) 9 0
+    (readOf (shapeFor ns) key))
+
+-- the row at the end: the bits of each field, or after a refusal what it was
+abbrev pub bitsAfter : Outcome Record → List ℕ → List ℕ
+bitsAfter (gives r) old = map fieldBits (fieldsOf r)
+bitsAfter (refuses number place) old = old
+
+unfoldable pub readExit : List ℕ → List ℕ → List ℕ → List ℕ
+readExit ns key old = bitsAfter (recordRead ns key (length old)) old
+
+-- a call that gives nothing but its success
+abbrev pub successOf : {A : Type 0} → Outcome A → Outcome Success
+successOf o = mapped (λ r. done) o
+
+-- ---- what the code's own steps are held to
+
+-- what a record beside its outcome says
+abbrev pub outcomeBeside : Record → Made → Outcome Record
+outcomeBeside r made.Done = gives r
+outcomeBeside r (made.Refused f) = refusalOf f
+
+abbrev pub recordedOutcome : Recorded → Outcome Record
+recordedOutcome x = outcomeBeside (x .«record») (x .outcome)
+
+-- a row of `room` bits has one for each field of the record
+abbrev pub Room : Outcome Record → ℕ → Type 0
+Room (gives r) room = (r .count ≤ 12) × (room ≡ r .count)
+Room (refuses number place) room = Unit {0}
