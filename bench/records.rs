@@ -3,7 +3,7 @@
 use std::hint::black_box;
 use std::time::Instant;
 
-use crate::boundary::{self, Answer, Measured, Ordered, DONE};
+use crate::boundary::{self, Answer, Given, DONE};
 use crate::random::Random;
 use crate::rust_records as rust;
 use crate::table::Line;
@@ -69,22 +69,22 @@ fn print(work: &str, size: &str, [library, rust]: [f64; 2]) {
     Line { work, size, library, rust, position: None, copy: None }.print();
 }
 
-type Compare = fn(&[u8], &[u64], &[u8], &[u64]) -> Ordered;
-type Write = fn(&[u8], &[u64], &mut [u8]) -> Measured;
+type Compare = fn(&[u8], &[u64], &[u8], &[u64]) -> Given<u8>;
+type Write = fn(&[u8], &[u64], &mut [u8]) -> Given<usize>;
 type Read = fn(&[u8], &[u8], &mut [u64]) -> Answer;
 
 fn orders(call: Compare, kinds: &[u8], a: &[u64], b: &[u64], orders: &mut [u8]) {
     let pairs = a.chunks(kinds.len()).zip(b.chunks(kinds.len()));
     for (order, (a, b)) in orders.iter_mut().zip(pairs) {
         let answer = call(black_box(kinds), a, black_box(kinds), b);
-        *order = if answer.number == 0 { answer.order } else { u8::MAX };
+        *order = if answer.number == 0 { answer.result } else { u8::MAX };
     }
 }
 
 fn keys(call: Write, kinds: &[u8], records: &[u64], keys: &mut [u8]) {
     let length = keys.len() / COUNT;
     for (bits, key) in records.chunks(kinds.len()).zip(keys.chunks_mut(length)) {
-        assert!(call(black_box(kinds), bits, key) == Measured { number: 0, place: 0, length });
+        assert!(call(black_box(kinds), bits, key) == Given { number: 0, place: 0, result: length });
     }
 }
 
@@ -165,7 +165,7 @@ fn refuse_alike(random: &mut Random) {
         });
         assert!(written[0] == written[1], "{kinds:?} {bits:x?} {room}: {written:x?}");
 
-        let mut key = written[0].1[..written[0].0.length].to_vec();
+        let mut key = written[0].1[..written[0].0.result].to_vec();
         if !key.is_empty() && random.below(2) == 0 {
             let place = random.below(key.len());
             key[place] = [0, 0x7f, 0x80, 0xff][random.below(4)];

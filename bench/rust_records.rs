@@ -2,7 +2,7 @@
 
 use std::cmp::Ordering;
 
-use crate::boundary::{Answer, Measured, Ordered, DONE};
+use crate::boundary::{Answer, Given, DONE};
 
 struct Refused {
     number: u8,
@@ -56,7 +56,7 @@ fn counted(kinds: &[u8]) -> Result<(), Refused> {
 }
 
 #[inline(never)]
-pub fn record_compare(a_kinds: &[u8], a_bits: &[u64], b_kinds: &[u8], b_bits: &[u64]) -> Ordered {
+pub fn record_compare(a_kinds: &[u8], a_bits: &[u64], b_kinds: &[u8], b_bits: &[u64]) -> Given<u8> {
     match compared(a_kinds, a_bits, b_kinds, b_bits) {
         Ok(order) => {
             let order = match order {
@@ -65,9 +65,9 @@ pub fn record_compare(a_kinds: &[u8], a_bits: &[u64], b_kinds: &[u8], b_bits: &[
                 Some(Ordering::Greater) => 2,
                 None => 3,
             };
-            Ordered { number: 0, place: 0, order }
+            Given { number: 0, place: 0, result: order }
         }
-        Err(Refused { number, place }) => Ordered { number, place, order: 0 },
+        Err(Refused { number, place }) => Given { number, place, result: 0 },
     }
 }
 
@@ -105,10 +105,10 @@ fn field_order(kind: u8, a: u64, b: u64) -> Option<Ordering> {
 }
 
 #[inline(never)]
-pub fn key_write(kinds: &[u8], bits: &[u64], buffer: &mut [u8]) -> Measured {
+pub fn key_write(kinds: &[u8], bits: &[u64], buffer: &mut [u8]) -> Given<usize> {
     match written(kinds, bits, buffer) {
-        Ok(length) => Measured { number: 0, place: 0, length },
-        Err(Refused { number, place }) => Measured { number, place, length: 0 },
+        Ok(length) => Given { number: 0, place: 0, result: length },
+        Err(Refused { number, place }) => Given { number, place, result: 0 },
     }
 }
 

@@ -236,15 +236,17 @@ impl From<Sample> for c::Sample {
     }
 }
 
-/// The boundary itself, as include/silamogo.h has it.
-mod c {
+/// The boundary itself, as include/silamogo.h has it, for callers with kind numbers of their own.
+pub mod c {
     #[repr(C)]
+    #[derive(Clone, Copy, Debug, PartialEq, Eq)]
     pub struct Sample {
         pub kind: u8,
         pub bits: u64,
     }
 
     #[repr(C)]
+    #[derive(Clone, Copy, Debug, PartialEq, Eq)]
     pub struct Answer {
         pub number: u8,
         pub place: usize,
@@ -252,6 +254,7 @@ mod c {
 
     /// An answer with a result: an order, a class, a position, a sample or a length.
     #[repr(C)]
+    #[derive(Clone, Copy, Debug, PartialEq, Eq)]
     pub struct Given<T> {
         pub number: u8,
         pub place: usize,
