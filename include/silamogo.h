@@ -113,11 +113,11 @@ typedef struct silamogo_measured {
 /* ---- one sample. Of every sample and kind: 7 for a number that names no kind, then 4 for bits that the kind doesn't have; the call's own
  * refusals come after these. */
 
-/* The class of a float (RULES: Bits and classes). Refuses an integer kind with 7. */
+/* The class of a float (RULES: Bits and classes). An integer kind is 7 too, before 4. */
 silamogo_classed silamogo_classify(silamogo_sample s);
 
-/* The place of a float in the total order, from the least number of its width to the greatest (RULES: Total order). Refuses an integer
- * kind with 7. */
+/* The place of a float in the total order, from the least number of its width to the greatest (RULES: Total order). An integer
+ * kind is 7 too, before 4. */
 silamogo_placed silamogo_position(silamogo_sample s);
 
 /* IEEE 754 comparison: the two zeros are equal, and a NaN has no order (RULES: Comparison). Refuses two kinds with 7. */
