@@ -1,6 +1,6 @@
 //! The same work in Rust: a row is refused whole or done whole. BLOCKS picks how the first bad sample is looked for.
 
-use crate::{Answer, DONE};
+use crate::boundary::{Answer, DONE};
 
 const LENGTHS: Answer = Answer { number: 9, place: 0 };
 

@@ -1,31 +1,12 @@
 //! An independent second program for the case lines: it makes cases, answers
 //! them, and compares another program's answers with its own.
 
-mod bytes;
-mod cases;
-mod check;
-mod edges;
-mod fixed;
-mod judge;
-mod lines;
-mod list;
-mod malformed;
-mod odd;
-mod order;
-mod program;
-mod random;
-mod record;
-#[cfg(test)]
-mod rules;
-#[cfg(test)]
-mod second_opinion;
-mod value;
-
 use std::ffi::{OsStr, OsString};
 use std::io::{self, BufWriter, Write};
 use std::process::ExitCode;
 
-use cases::Cases;
+use oracle::cases::Cases;
+use oracle::{check, fixed, lines, order, program};
 
 const USAGE: &str = "\
 usage: oracle cases SEED COUNT            case lines made from a seed

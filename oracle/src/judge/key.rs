@@ -72,7 +72,7 @@ fn field_key(value: Value) -> Vec<u8> {
 }
 
 /// The value whose key it is; nothing when it is the key of none.
-fn value_of(kind: Kind, key: &[u8]) -> Option<Value> {
+pub fn value_of(kind: Kind, key: &[u8]) -> Option<Value> {
     let rank = key
         .iter()
         .fold(0, |rank, &byte| rank << 8 | u64::from(byte));

@@ -1,0 +1,47 @@
+//! Drives the proved library through its C boundary, and holds every answer
+//! against the oracle's judges and Rust's own floats. It links the library, and
+//! shares nothing with it but the wrapper's declarations.
+
+mod calls;
+mod cases;
+mod every;
+mod lines;
+mod raw;
+#[rustfmt::skip]
+#[path = "../../../bindings/rust/silamogo.rs"]
+mod silamogo;
+
+use std::process::ExitCode;
+
+const USAGE: &str = "\
+usage: boundary every-f32 STEP     every STEPth pattern of f32, and all near the borders of exponents
+       boundary cases SEED COUNT   random cases of every call, made from a seed
+";
+
+fn main() -> ExitCode {
+    let arguments: Vec<String> = std::env::args().skip(1).collect();
+    let arguments: Vec<&str> = arguments.iter().map(String::as_str).collect();
+    let well = match arguments[..] {
+        ["every-f32", step] => number(step).filter(|&step| step > 0).map(every::every_f32),
+        ["cases", seed, count] => number(seed).zip(number(count)).map(cases::cases),
+        _ => None,
+    };
+    match well {
+        Some(Ok(said)) => {
+            println!("{said}");
+            ExitCode::SUCCESS
+        }
+        Some(Err(difference)) => {
+            println!("DIFFERS: {difference}");
+            ExitCode::FAILURE
+        }
+        None => {
+            eprint!("{USAGE}");
+            ExitCode::from(2)
+        }
+    }
+}
+
+fn number(text: &str) -> Option<u64> {
+    text.parse().ok()
+}
