@@ -42,14 +42,14 @@ module _ {A B : Type 0} (conv : A → Outcome B) (test : A → Bool) (f : A → 
     refused-step at x xs u false q k bad rest =
         ap (λ o. sampleThen at o (rowAnswer conv (suc at) xs)) (good x u q) ∙ rest (omega arith) bad ∙ ap (λ (i : ℕ). refuses m i) (omega arith)
 
-    row-refused : (at : ℕ) (s : List A) → All s → first test s < length s → conv (getD s (first test s) d) ≡ refuses m p → rowAnswer conv at s ≡ refuses m (at + first test s)
+    pub row-refused : (at : ℕ) (s : List A) → All s → first test s < length s → conv (getD s (first test s) d) ≡ refuses m p → rowAnswer conv at s ≡ refuses m (at + first test s)
     unfolding rowAnswer first
     row-refused at [] u h bad = absurd (not-suc-le-zero h)
     row-refused at (x ∷ xs) u h bad = refused-step at x xs (u 0 (omega arith)) (test x) refl h bad (row-refused (suc at) xs (tail x xs u))
 
   -- ---- no sample passes it
 
-  row-done : (at : ℕ) (s : List A) → All s → first test s ≡ length s → (rowAnswer conv at s ≡ gives done) × (rowResults conv s ≡ map f s)
+  pub row-done : (at : ℕ) (s : List A) → All s → first test s ≡ length s → (rowAnswer conv at s ≡ gives done) × (rowResults conv s ≡ map f s)
   unfolding rowAnswer rowResults first
   row-done at [] p h = (refl, refl)
   row-done at (x ∷ xs) p h =

@@ -1,0 +1,151 @@
+-- What one sample, a block and a step answer and leave, by what the passes found.
+use mathlib.Core.Path.{_≡_, refl, sym, _∙_, ap, subst}
+use mathlib.Core.Bool.{Bool, true, false, not, true≢false}
+use mathlib.Core.List.{List, _++_, map}
+use Prim.Native.Nat.{ℕ, _+_, _*_, _/_, _%_, _^_, _≤_, _<_}
+use native.Mathlib.Nat.{zero-add}
+use native.Mathlib.Omega.{arith}
+use borrow.Author.Tests.{lt-ltb, le-ltb, eq-eqb, ne-eqb}
+use lib.Dec.{eqb, ltb}
+use lib.ListN.{length, drop, getD, length-map}
+use lib.Seq.{sets, sets-eq}
+use Rattle.value.specs.declared.Kind.{Kind}
+use Rattle.value.specs.declared.Value.{Value}
+use Rattle.value.specs.declared.Value.the-variants.{U8}
+use Rattle.value.specs.declared.Refusal.{Refusal}
+use Rattle.value.specs.Meaning.{bitsOf}
+use Rattle.value.specs.Outcome.{Outcome, gives, refuses, refuseIf, andThen, mapped, Success, done}
+use Rattle.convert.specs.Convert.{convertOf}
+use Rattle.row.specs.declared.Rowed.{Rowed}
+use Rattle.row.specs.declared.Rowed.the-variants as rowed
+use Rattle.row.specs.Row.{rowAnswer, rowResults, rowedOutcome, first}
+use Rattle.row.proofs.Scan.{first-all, first-hit}
+use Rattle.row.proofs.Rows.{row-refused, row-done}
+use Rattle.block.specs.Samples.{bytesOf, countOf, leftOf, samplesIn, samplesOf, bytesFor}
+use Rattle.block.specs.Migrate.{bitsTo, outputOf, placedFrom, blockAnswer, bufferAfter, blockExit, stepSamples, stepAnswer, stepExit}
+use Rattle.block.specs.Steps.{isRefused, numberIn, bitsIn, refusedTo, bitsFor}
+use Rattle.block.specs.declared.Progress.{Progress}
+use Rattle.block.proofs.Samplings.{room-inside, length-samples, length-bytes}
+
+-- ---- one sample
+
+pub sample-given : (to : Kind) (v : Value) {w : Value} → gives w ≡ convertOf v to → bitsTo to v ≡ gives (bitsOf w)
+unfolding bitsTo
+sample-given to v q = ap (mapped bitsOf) (sym q)
+
+pub sample-refused : (to : Kind) (v : Value) {m p : ℕ} → refuses m p ≡ convertOf v to → bitsTo to v ≡ refuses m p
+unfolding bitsTo
+sample-refused to v q = ap (mapped bitsOf) (sym q)
+
+given-bits : (o : Outcome ℕ) → isRefused o ≡ false → o ≡ gives (bitsIn o)
+given-bits (gives b) h = refl
+given-bits (refuses m p) h = absurd (true≢false h)
+
+refused-number : (o : Outcome ℕ) → isRefused o ≡ true → (p : ℕ) × (o ≡ refuses (numberIn o) p)
+refused-number (gives b) h = absurd (true≢false (sym h))
+refused-number (refuses m p) h = (p, refl)
+
+-- ---- a block
+
+-- what a refusal leaves
+kept : (output old : List ℕ) {m p : ℕ} {o : Outcome Success} → refuses m p ≡ o → old ≡ bufferAfter o output old
+kept output old q = ap (λ o. bufferAfter o output old) q
+
+module _ (from to : Kind) (src old : List ℕ) where
+  abbrev samples : List Value
+  samples = samplesOf from src
+
+  abbrev pub BlockAnswers : Outcome Success → List ℕ → Type 0
+  BlockAnswers answer left = (answer ≡ blockAnswer from to src (length old)) × (left ≡ blockExit from to src old)
+
+  block-refused : {m p : ℕ} → refuses m p ≡ blockAnswer from to src (length old) → BlockAnswers (refuses m p) old
+  unfolding blockExit
+  block-refused q = (q, kept (outputOf from to src) old q)
+
+  no-room : length old / bytesOf to < countOf from src → refuses 9 0 ≡ blockAnswer from to src (length old)
+  unfolding blockAnswer
+  no-room h = rw (lt-ltb (length old / bytesOf to) (countOf from src) h) refl
+
+  pub block-short : length old / bytesOf to < countOf from src → BlockAnswers (refuses 9 0) old
+  block-short h = block-refused (no-room h)
+
+  module _ (room : countOf from src ≤ length old / bytesOf to) (i : ℕ) (i-is : i ≡ first (refusedTo to) samples) where
+    past-room : blockAnswer from to src (length old) ≡ rowAnswer (bitsTo to) 0 samples
+    unfolding blockAnswer
+    past-room = ap (λ (b : Bool). refuseIf b 9 0 (rowAnswer (bitsTo to) 0 samples)) (le-ltb (length old / bytesOf to) (countOf from src) room)
+
+    count-is : length samples ≡ countOf from src
+    count-is = length-samples from (countOf from src) src
+
+    pub block-bad : i < countOf from src → {m : ℕ} → m ≡ numberIn (bitsTo to (getD samples i (U8 0))) → BlockAnswers (refuses m i) old
+    block-bad h {m} q =
+        let l : i < length samples = omega (arith, count-is) in
+        let hit = first-hit (refusedTo to) samples i (U8 0) i-is l in
+        let bad = refused-number (bitsTo to (getD samples i (U8 0))) hit in
+        let at : bitsTo to (getD samples (first (refusedTo to) samples) (U8 0)) ≡ refuses m (bad .0) =
+        ap (λ (j : ℕ). bitsTo to (getD samples j (U8 0))) (sym i-is) ∙ bad .1 ∙ ap (λ (k : ℕ). refuses k (bad .0)) (sym q) in
+        let r = row-refused (bitsTo to) (refusedTo to) (bitsFor to) (λ v. Unit {0}) (U8 0) (λ v u t. given-bits (bitsTo to v) t) m (bad .0) 0 samples (λ j k. tt) (omega arith) at in
+        block-refused (sym (past-room ∙ r ∙ ap (λ (j : ℕ). refuses m j) (zero-add (first (refusedTo to) samples) ∙ sym i-is)))
+
+    pub block-done : countOf from src ≤ i → {now : List ℕ} → now ≡ sets old 0 (bytesFor to (map (bitsFor to) samples)) → BlockAnswers (gives done) now
+    unfolding blockExit outputOf
+    block-done h {now} q =
+        let all = first-all (refusedTo to) samples i i-is (omega (arith, count-is)) in
+        let r = row-done (bitsTo to) (refusedTo to) (bitsFor to) (λ v. Unit {0}) (U8 0) (λ v u t. given-bits (bitsTo to v) t) 0 samples (λ j k. tt) all in
+        let out = bytesFor to (map (bitsFor to) samples) in
+        let size : length out ≡ countOf from src * bytesOf to = length-bytes to (map (bitsFor to) samples) ∙ ap (λ (m : ℕ). m * bytesOf to) (length-map samples (bitsFor to) ∙ count-is) in
+        let fits : 0 + length out ≤ length old = rw (zero-add (length out), size) (room-inside to room) in
+        let laid : now ≡ out ++ drop (length out) old = q ∙ sets-eq out old 0 fits ∙ ap (λ (m : ℕ). out ++ drop m old) (zero-add (length out)) in
+        let o : gives done ≡ blockAnswer from to src (length old) = sym (past-room ∙ r .0) in
+        (o, laid ∙ ap (λ (l : List ℕ). l ++ drop (length l) old) (ap (bytesFor to) (sym (r .1))) ∙ ap (λ a. bufferAfter a (bytesFor to (rowResults (bitsTo to) samples)) old) o)
+
+-- both counts by the numbers of bytes that the code asked for
+pub shorter : (l m : ℕ) {u v x y : ℕ} → u ≡ x → v ≡ y → l / v < m / u → l / y < m / x
+shorter l m p q h = rw (← p, ← q) h
+
+pub enough : (l n : ℕ) {v y : ℕ} → v ≡ y → n ≤ l / v → n ≤ l / y
+enough l n q h = rw (← q) h
+
+-- ---- a step
+
+same-left : (n : ℕ) (o : Outcome Success) (output old : List ℕ) → bufferAfter (placedFrom n o) output old ≡ bufferAfter o output old
+same-left n (gives d) output old = refl
+same-left n (refuses m p) output old = refl
+
+module _ (from to : Kind) (s : Progress) (src old : List ℕ) where
+  abbrev pub StepAnswers : Outcome Success → List ℕ → Type 0
+  StepAnswers answer left = (answer ≡ stepAnswer from to s src (length old)) × (left ≡ stepExit from to s src old)
+
+  pub step-count : {r u : ℕ} → u ≡ bytesOf from → r ≡ (s .samples + length src / u) % 2 ^ 64 → r ≡ stepSamples from s src
+  unfolding stepSamples
+  step-count p q = q ∙ rw p refl
+
+  step-refused : {m p : ℕ} → refuses m p ≡ stepAnswer from to s src (length old) → StepAnswers (refuses m p) old
+  unfolding stepExit
+  step-refused q = (q, kept (outputOf from to src) old q)
+
+  left-over : (leftOf from src ≡ 0 → ⊥) → refuses 9 (stepSamples from s src) ≡ stepAnswer from to s src (length old)
+  unfolding stepAnswer
+  left-over h = rw (ne-eqb (leftOf from src) 0 h) refl
+
+  pub step-left : (leftOf from src ≡ 0 → ⊥) → StepAnswers (refuses 9 (stepSamples from s src)) old
+  step-left h = step-refused (left-over h)
+
+  module _ (none : leftOf from src ≡ 0) where
+    past-left : stepAnswer from to s src (length old) ≡ andThen (rowedOutcome (s .answer)) (λ d. placedFrom (s .samples) (blockAnswer from to src (length old)))
+    unfolding stepAnswer
+    past-left = rw (eq-eqb (leftOf from src) 0 none) refl
+
+    -- an earlier refusal stays
+    pub step-stays : (f : Refusal) → s .answer ≡ rowed.Refused f → StepAnswers (rowedOutcome (s .answer)) old
+    step-stays f e =
+        let o : rowedOutcome (s .answer) ≡ refuses (f .number) (f .place) = ap rowedOutcome e in
+        let q : refuses (f .number) (f .place) ≡ stepAnswer from to s src (length old) = sym (past-left ∙ ap (λ a. andThen a (λ d. placedFrom (s .samples) (blockAnswer from to src (length old)))) o) in
+        (o ∙ q, step-refused q .1)
+
+    pub step-block : s .answer ≡ rowed.Done → {b o : Outcome Success} {now : List ℕ} → BlockAnswers from to src old b now → o ≡ placedFrom (s .samples) b → StepAnswers o now
+    unfolding stepExit blockExit
+    step-block e {b} {o} {now} w q =
+        let a : o ≡ stepAnswer from to s src (length old) = q ∙ ap (placedFrom (s .samples)) (w .0) ∙ sym (past-left ∙ ap (λ a. andThen (rowedOutcome a) (λ d. placedFrom (s .samples) (blockAnswer from to src (length old)))) e) in
+        let p : placedFrom (s .samples) (blockAnswer from to src (length old)) ≡ stepAnswer from to s src (length old) = ap (placedFrom (s .samples)) (sym (w .0)) ∙ sym q ∙ a in
+        (a, w .1 ∙ sym (same-left (s .samples) (blockAnswer from to src (length old)) (outputOf from to src) old) ∙ ap (λ r. bufferAfter r (outputOf from to src) old) p)

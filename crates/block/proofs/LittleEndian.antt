@@ -1,0 +1,78 @@
+-- Numbers in bytes, low byte first: read from the high byte down, written from the low byte up.
+use mathlib.Core.Path.{_≡_, refl, sym, _∙_, ap}
+use mathlib.Core.List.{List, [], _∷_, _++_}
+use Prim.Native.Nat.{ℕ, zero, suc, _+_, _-_, _*_, _/_, _%_, _^_, _≤_, _<_}
+use native.Mathlib.Nat.{pow-suc, pow-le-pow-right, lt-of-lt-of-le, zero-lt-suc, suc-add, add-suc, add-zero}
+use native.Mathlib.Numerals.{add-one}
+use native.Mathlib.Omega.{arith}
+use lib.ListN.{length, take, drop, getD, set, length-drop, length-set, drop-of-length-le}
+use lib.Seq.{sets, length-take-le, drop-cons, getD-take, getD-drop}
+use Rattle.block.specs.Samples.{littleEndian, numberFrom}
+
+pub length-little : (w n : ℕ) → length (littleEndian w n) ≡ w
+unfolding littleEndian
+length-little zero n = refl
+length-little (suc w) n = ap suc (length-little w (n / 256))
+
+-- ---- reading: the bytes from `left` on make n
+
+module _ (src : List ℕ) (from width : ℕ) where
+  abbrev part : List ℕ
+  part = take width (drop from src)
+
+  abbrev pub Gathered : ℕ → ℕ → Type 0
+  Gathered n left = (left ≤ width) × (n ≡ numberFrom (drop left part)) × (n < 256 ^ (width - left))
+
+  part-length : from + width ≤ length src → length part ≡ width
+  part-length inside = length-take-le width (drop from src) (rw length-drop (omega arith))
+
+  pub gather-none : from + width ≤ length src → Gathered 0 width
+  unfolding numberFrom
+  gather-none inside =
+      let none : width - width ≡ 0 = omega arith in
+      let some : 0 < 256 ^ (width - width) = rw none (omega arith) in
+      (omega arith, sym (ap numberFrom (drop-of-length-le part {i = width} (omega (arith, part-length inside)))), some)
+
+  module _ (n left x : ℕ) (g : Gathered n left) (some : 0 < left) (byte : x < 256) where
+    next-below : n * 256 + x < 256 ^ (width - (left - 1))
+    next-below =
+        let w : width - (left - 1) ≡ suc (width - left) = omega arith in
+        rw (w, pow-suc 256 (width - left)) (omega (arith, g .2))
+
+    -- it fits a word
+    pub gather-room : width ≤ 8 → n * 256 + x < 2 ^ 64
+    gather-room l = lt-of-lt-of-le next-below (pow-le-pow-right (zero-lt-suc 255) (let k : width - (left - 1) ≤ 8 = omega arith in k))
+
+    pub gather-step : from + width ≤ length src → x ≡ getD src (from + (left - 1)) 0 → Gathered (n * 256 + x) (left - 1)
+    unfolding numberFrom
+    gather-step inside q =
+        let j = left - 1 in
+        let e : suc j ≡ left = omega arith in
+        let cell : getD part j 0 ≡ x = getD-take width (drop from src) j 0 (omega arith) ∙ getD-drop from src j 0 ∙ sym q in
+        let split : drop j part ≡ x ∷ drop left part = drop-cons part j 0 (omega (arith, part-length inside)) ∙ ap (λ (y : ℕ). y ∷ drop (suc j) part) cell ∙ ap (λ (i : ℕ). x ∷ drop i part) e in
+        (omega arith, ap (λ (m : ℕ). m * 256 + x) (g .1) ∙ sym (ap numberFrom split), next-below)
+
+  pub gather-end : (n left : ℕ) → left ≤ 0 → Gathered n left → n ≡ numberFrom part
+  gather-end n zero h g = g .1
+  gather-end n (suc left) h g = absurd (omega arith)
+
+-- ---- writing: the bytes of `rest` are still to be laid down from `at` on
+
+module _ (old : List ℕ) (to width n : ℕ) where
+  abbrev pub Laying : List ℕ → ℕ → ℕ → ℕ → Type 0
+  Laying now at left rest = (at + left ≡ to + width) × (length now ≡ length old) × (sets now at (littleEndian left rest) ≡ sets old to (littleEndian width n))
+
+  pub lay-step : (now : List ℕ) (at left rest : ℕ) → 0 < left → Laying now at left rest → Laying (set now at (rest % 256)) (at + 1) (left - 1) (rest / 256)
+  unfolding littleEndian
+  lay-step now at zero rest some i = absurd (omega arith)
+  lay-step now at (suc left) rest some i = let e : suc left - 1 ≡ left = omega arith in (omega (arith, i .0), length-set now at (rest % 256) ∙ i .1, rw (add-one at, e) (i .2))
+
+  pub lay-end : (now : List ℕ) (at left rest : ℕ) → left ≤ 0 → Laying now at left rest → now ≡ sets old to (littleEndian width n)
+  unfolding littleEndian
+  lay-end now at zero rest h i = i .2
+  lay-end now at (suc left) rest h i = absurd (omega arith)
+
+-- bytes laid down behind bytes
+pub sets-append : (a b l : List ℕ) (i : ℕ) → sets (sets l i a) (i + length a) b ≡ sets l i (a ++ b)
+sets-append [] b l i = rw (add-zero i) refl
+sets-append (x ∷ a) b l i = rw (add-suc i (length a), ← suc-add i (length a)) (sets-append a b (set l i x) (suc i))

@@ -1,0 +1,25 @@
+-- The arm tells the outcome.
+use mathlib.Core.Path.{_≡_, sym, _∙_, ap}
+use Rattle.convert.specs.Convert.{convertOf, convertedOutcome}
+use Rattle.block.specs.Steps.{bitsIn}
+use Rattle.block.proofs.Blocks.{sample-given, sample-refused}
+use borrow.Author.Needs.{needs}
+use Rattle.block.proofs.samples.bits_to.Statement.{statement}
+use Rattle.block.proofs.samples.bits_to.Tie as tie
+
+returns : tie.Need-returns
+returns c =
+    let known = c .before .before in
+    let asked = known .before .before in
+    let a = asked .before .args in
+    c .bits-of .ensures ∙ sym (ap bitsIn (sample-given (a .to) (a .v) (sym (ap convertedOutcome (known .w .given .1)) ∙ asked .convert .ensures)))
+
+returns-2 : tie.Need-returns-2
+returns-2 c =
+    let asked = c .before .before in
+    let a = asked .before .args in
+    sym (ap bitsIn (sample-refused (a .to) (a .v) (sym (ap convertedOutcome (c .enum-told .given .1)) ∙ asked .convert .ensures)))
+
+pub bits-to-spec : {M : Type 1} → statement M
+bits-to-spec =
+    tie.close (tie.spec (λ c κs. search needs) (λ c. search needs) (λ c κs. search needs) (λ c. search needs) returns returns-2)

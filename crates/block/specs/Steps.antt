@@ -1,0 +1,27 @@
+-- What the code's own steps compute.
+use Prim.Native.Nat.{ℕ}
+use mathlib.Core.Bool.{Bool, true, false}
+use Rattle.value.specs.declared.Kind.{Kind}
+use Rattle.value.specs.declared.Value.{Value}
+use Rattle.value.specs.Outcome.{Outcome, gives, refuses}
+use Rattle.block.specs.Migrate.{bitsTo}
+
+abbrev pub isRefused : {A : Type 0} → Outcome A → Bool
+isRefused (gives a) = false
+isRefused (refuses number place) = true
+
+-- the number of a refusal, and the bits of a result
+abbrev pub numberIn : {A : Type 0} → Outcome A → ℕ
+numberIn (gives a) = 0
+numberIn (refuses number place) = number
+
+abbrev pub bitsIn : Outcome ℕ → ℕ
+bitsIn (gives b) = b
+bitsIn (refuses number place) = 0
+
+-- of a sample: whether its conversion is refused, and the bits of its conversion
+abbrev pub refusedTo : Kind → Value → Bool
+refusedTo to v = isRefused (bitsTo to v)
+
+abbrev pub bitsFor : Kind → Value → ℕ
+bitsFor to v = bitsIn (bitsTo to v)

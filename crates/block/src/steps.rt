@@ -1,0 +1,97 @@
+// A block of samples behind the samples before it. RULES.md: Migration.
+ghost use mathlib.Core.Path.{_≡_};
+ghost use Prim.Native.Nat.{_+_, _/_, _≤_};
+ghost use lib.ListN.{length};
+ghost use Rattle.row.specs.Row.{rowedOutcome};
+ghost use Rattle.block.specs.Samples.{bytesOf, countOf};
+ghost use Rattle.block.specs.Migrate.{counted, placedFrom, blockAnswer, blockExit, stepSamples, stepAnswer, stepExit};
+use crate::Progress;
+use crate::passes::first_refused;
+use crate::passes::write_samples;
+use crate::samples::number_of;
+use crate::samples::sample_at;
+use crate::samples::sample_bytes;
+use row::Rowed;
+use std::num::wrapping_add_usize;
+use value::Kind;
+use value::Refusal;
+
+// No samples yet, and nothing refused.
+pub fn start() -> Progress
+    ensures { λ r. ⌜ r ≡ record { samples = 0; answer = Rowed.Done } ⌝ }
+{
+    Progress {
+        samples: 0,
+        answer: Rowed::Done,
+    }
+}
+
+fn refused(number: u8, place: usize) -> Rowed
+    ensures { λ r. ⌜ r ≡ Rowed.Refused (record { number = number; place = place }) ⌝ }
+{
+    Rowed::Refused(Refusal { number, place })
+}
+
+// The samples one by one: the buffer, which has room for them, is written whole, or left as it was.
+fn one_by_one(from: Kind, to: Kind, src: &[u8], n: usize, dst: &mut [u8]) -> Rowed
+    requires { ⌜ (n ≡ countOf from (now src)) × (n ≤ length (now dst) / bytesOf to) ⌝ }
+    ensures answer { λ r. ⌜ rowedOutcome r ≡ blockAnswer from to (now (src .entry)) (length (now (dst .entry))) ⌝ }
+    ensures exit { λ _. ⌜ now (dst .exit) ≡ blockExit from to (now (src .entry)) (now (dst .entry)) ⌝ }
+{
+    let i = first_refused(from, to, src, n);
+    if i < n {
+        let v = sample_at(from, src, i * sample_bytes(from));
+        return refused(number_of(v, to), i);
+    }
+    write_samples(from, to, src, n, dst);
+    Rowed::Done
+}
+
+// The block alone.
+fn block(from: Kind, to: Kind, src: &[u8], dst: &mut [u8]) -> Rowed
+    ensures answer { λ r. ⌜ rowedOutcome r ≡ blockAnswer from to (now (src .entry)) (length (now (dst .entry))) ⌝ }
+    ensures exit { λ _. ⌜ now (dst .exit) ≡ blockExit from to (now (src .entry)) (now (dst .entry)) ⌝ }
+{
+    let n = src.len() / sample_bytes(from);
+    if dst.len() / sample_bytes(to) < n {
+        return refused(9, 0);
+    }
+    one_by_one(from, to, src, n, dst)
+}
+
+// A place in the block as a place in the whole.
+fn placed(samples: usize, r: Rowed) -> Rowed
+    ensures { λ p. ⌜ rowedOutcome p ≡ placedFrom samples (rowedOutcome r) ⌝ }
+{
+    match r {
+        Rowed::Done => Rowed::Done,
+        Rowed::Refused(f) => refused(f.number, wrapping_add_usize(samples, f.place)),
+    }
+}
+
+// After a refusal the samples are only counted.
+pub fn convert_block(s: Progress, from: Kind, to: Kind, src: &[u8], dst: &mut [u8]) -> Progress
+    ensures samples { λ r. ⌜ r .samples ≡ stepSamples from s (now (src .entry)) ⌝ }
+    ensures answer { λ r. ⌜ rowedOutcome (r .answer) ≡ stepAnswer from to s (now (src .entry)) (length (now (dst .entry))) ⌝ }
+    ensures exit { λ _. ⌜ now (dst .exit) ≡ stepExit from to s (now (src .entry)) (now (dst .entry)) ⌝ }
+{
+    let width = sample_bytes(from);
+    let samples = wrapping_add_usize(s.samples, src.len() / width);
+    if src.len() % width != 0 {
+        return Progress {
+            samples,
+            answer: refused(9, samples),
+        };
+    }
+    let answer = s.answer;
+    match answer {
+        Rowed::Done => Progress {
+            samples,
+            answer: placed(s.samples, block(from, to, src, dst)),
+        },
+        Rowed::Refused(_) => Progress {
+            samples,
+            answer,
+        },
+    }
+}
