@@ -12,19 +12,15 @@ use lib.Seq.{sets, sets-eq}
 use Rattle.value.specs.declared.Kind.{Kind}
 use Rattle.value.specs.declared.Value.{Value}
 use Rattle.value.specs.declared.Value.the-variants.{U8}
-use Rattle.value.specs.declared.Refusal.{Refusal}
 use Rattle.value.specs.Meaning.{bitsOf}
 use Rattle.value.specs.Outcome.{Outcome, gives, refuses, refuseIf, andThen, mapped, Success, done}
 use Rattle.convert.specs.Convert.{convertOf}
-use Rattle.row.specs.declared.Rowed.{Rowed}
-use Rattle.row.specs.declared.Rowed.the-variants as rowed
-use Rattle.row.specs.Row.{rowAnswer, rowResults, rowedOutcome, first}
+use Rattle.row.specs.Row.{rowAnswer, rowResults, first}
 use Rattle.row.proofs.Scan.{first-all, first-hit}
 use Rattle.row.proofs.Rows.{row-refused, row-done}
 use Rattle.block.specs.Samples.{bytesOf, countOf, leftOf, samplesIn, samplesOf, bytesFor}
 use Rattle.block.specs.Migrate.{bitsTo, outputOf, placedFrom, blockAnswer, bufferAfter, blockExit, stepSamples, stepAnswer, stepExit}
 use Rattle.block.specs.Steps.{isRefused, numberIn, bitsIn, refusedTo, bitsFor}
-use Rattle.block.specs.declared.Progress.{Progress}
 use Rattle.block.proofs.Samplings.{room-inside, length-samples, length-bytes}
 
 -- ---- one sample
@@ -51,6 +47,10 @@ refused-number (refuses m p) h = (p, refl)
 kept : (output old : List ℕ) {m p : ℕ} {o : Outcome Success} → refuses m p ≡ o → old ≡ bufferAfter o output old
 kept output old q = ap (λ o. bufferAfter o output old) q
 
+pub past-room : (from to : Kind) (src : List ℕ) (room : ℕ) → countOf from src ≤ room / bytesOf to → blockAnswer from to src room ≡ rowAnswer (bitsTo to) 0 (samplesOf from src)
+unfolding blockAnswer
+past-room from to src room h = ap (λ (b : Bool). refuseIf b 9 0 (rowAnswer (bitsTo to) 0 (samplesOf from src))) (le-ltb (room / bytesOf to) (countOf from src) h)
+
 module _ (from to : Kind) (src old : List ℕ) where
   abbrev samples : List Value
   samples = samplesOf from src
@@ -70,9 +70,8 @@ module _ (from to : Kind) (src old : List ℕ) where
   block-short h = block-refused (no-room h)
 
   module _ (room : countOf from src ≤ length old / bytesOf to) (i : ℕ) (i-is : i ≡ first (refusedTo to) samples) where
-    past-room : blockAnswer from to src (length old) ≡ rowAnswer (bitsTo to) 0 samples
-    unfolding blockAnswer
-    past-room = ap (λ (b : Bool). refuseIf b 9 0 (rowAnswer (bitsTo to) 0 samples)) (le-ltb (length old / bytesOf to) (countOf from src) room)
+    passed : blockAnswer from to src (length old) ≡ rowAnswer (bitsTo to) 0 samples
+    passed = past-room from to src (length old) room
 
     count-is : length samples ≡ countOf from src
     count-is = length-samples from (countOf from src) src
@@ -85,7 +84,7 @@ module _ (from to : Kind) (src old : List ℕ) where
         let at : bitsTo to (getD samples (first (refusedTo to) samples) (U8 0)) ≡ refuses m (bad .0) =
         ap (λ (j : ℕ). bitsTo to (getD samples j (U8 0))) (sym i-is) ∙ bad .1 ∙ ap (λ (k : ℕ). refuses k (bad .0)) (sym q) in
         let r = row-refused (bitsTo to) (refusedTo to) (bitsFor to) (λ v. Unit {0}) (U8 0) (λ v u t. given-bits (bitsTo to v) t) m (bad .0) 0 samples (λ j k. tt) (omega arith) at in
-        block-refused (sym (past-room ∙ r ∙ ap (λ (j : ℕ). refuses m j) (zero-add (first (refusedTo to) samples) ∙ sym i-is)))
+        block-refused (sym (passed ∙ r ∙ ap (λ (j : ℕ). refuses m j) (zero-add (first (refusedTo to) samples) ∙ sym i-is)))
 
     pub block-done : countOf from src ≤ i → {now : List ℕ} → now ≡ sets old 0 (bytesFor to (map (bitsFor to) samples)) → BlockAnswers (gives done) now
     unfolding blockExit outputOf
@@ -96,7 +95,7 @@ module _ (from to : Kind) (src old : List ℕ) where
         let size : length out ≡ countOf from src * bytesOf to = length-bytes to (map (bitsFor to) samples) ∙ ap (λ (m : ℕ). m * bytesOf to) (length-map samples (bitsFor to) ∙ count-is) in
         let fits : 0 + length out ≤ length old = rw (zero-add (length out), size) (room-inside to room) in
         let laid : now ≡ out ++ drop (length out) old = q ∙ sets-eq out old 0 fits ∙ ap (λ (m : ℕ). out ++ drop m old) (zero-add (length out)) in
-        let o : gives done ≡ blockAnswer from to src (length old) = sym (past-room ∙ r .0) in
+        let o : gives done ≡ blockAnswer from to src (length old) = sym (passed ∙ r .0) in
         (o, laid ∙ ap (λ (l : List ℕ). l ++ drop (length l) old) (ap (bytesFor to) (sym (r .1))) ∙ ap (λ a. bufferAfter a (bytesFor to (rowResults (bitsTo to) samples)) old) o)
 
 -- both counts by the numbers of bytes that the code asked for
@@ -112,40 +111,43 @@ same-left : (n : ℕ) (o : Outcome Success) (output old : List ℕ) → bufferAf
 same-left n (gives d) output old = refl
 same-left n (refuses m p) output old = refl
 
-module _ (from to : Kind) (s : Progress) (src old : List ℕ) where
-  abbrev pub StepAnswers : Outcome Success → List ℕ → Type 0
-  StepAnswers answer left = (answer ≡ stepAnswer from to s src (length old)) × (left ≡ stepExit from to s src old)
-
-  pub step-count : {r u : ℕ} → u ≡ bytesOf from → r ≡ (s .samples + length src / u) % 2 ^ 64 → r ≡ stepSamples from s src
-  unfolding stepSamples
-  step-count p q = q ∙ rw p refl
-
-  step-refused : {m p : ℕ} → refuses m p ≡ stepAnswer from to s src (length old) → StepAnswers (refuses m p) old
-  unfolding stepExit
-  step-refused q = (q, kept (outputOf from to src) old q)
-
-  left-over : (leftOf from src ≡ 0 → ⊥) → refuses 9 (stepSamples from s src) ≡ stepAnswer from to s src (length old)
+module _ (from to : Kind) (before : ℕ) (answer : Outcome Success) (src : List ℕ) (room : ℕ) where
+  pub left-over : (leftOf from src ≡ 0 → ⊥) → refuses 9 (stepSamples from before src) ≡ stepAnswer from to before answer src room
   unfolding stepAnswer
   left-over h = rw (ne-eqb (leftOf from src) 0 h) refl
 
-  pub step-left : (leftOf from src ≡ 0 → ⊥) → StepAnswers (refuses 9 (stepSamples from s src)) old
-  step-left h = step-refused (left-over h)
+  pub past-left : leftOf from src ≡ 0 → stepAnswer from to before answer src room ≡ andThen answer (λ d. placedFrom before (blockAnswer from to src room))
+  unfolding stepAnswer
+  past-left none = rw (eq-eqb (leftOf from src) 0 none) refl
+
+module _ (from to : Kind) (before : ℕ) (answer : Outcome Success) (src old : List ℕ) where
+  abbrev pub StepAnswers : Outcome Success → List ℕ → Type 0
+  StepAnswers given left = (given ≡ stepAnswer from to before answer src (length old)) × (left ≡ stepExit from to before answer src old)
+
+  pub step-count : {r u : ℕ} → u ≡ bytesOf from → r ≡ (before + length src / u) % 2 ^ 64 → r ≡ stepSamples from before src
+  unfolding stepSamples
+  step-count p q = q ∙ rw p refl
+
+  step-refused : {m p : ℕ} → refuses m p ≡ stepAnswer from to before answer src (length old) → StepAnswers (refuses m p) old
+  unfolding stepExit
+  step-refused q = (q, kept (outputOf from to src) old q)
+
+  pub step-left : (leftOf from src ≡ 0 → ⊥) → StepAnswers (refuses 9 (stepSamples from before src)) old
+  step-left h = step-refused (left-over from to before answer src (length old) h)
 
   module _ (none : leftOf from src ≡ 0) where
-    past-left : stepAnswer from to s src (length old) ≡ andThen (rowedOutcome (s .answer)) (λ d. placedFrom (s .samples) (blockAnswer from to src (length old)))
-    unfolding stepAnswer
-    past-left = rw (eq-eqb (leftOf from src) 0 none) refl
+    passed-left : stepAnswer from to before answer src (length old) ≡ andThen answer (λ d. placedFrom before (blockAnswer from to src (length old)))
+    passed-left = past-left from to before answer src (length old) none
 
     -- an earlier refusal stays
-    pub step-stays : (f : Refusal) → s .answer ≡ rowed.Refused f → StepAnswers (rowedOutcome (s .answer)) old
-    step-stays f e =
-        let o : rowedOutcome (s .answer) ≡ refuses (f .number) (f .place) = ap rowedOutcome e in
-        let q : refuses (f .number) (f .place) ≡ stepAnswer from to s src (length old) = sym (past-left ∙ ap (λ a. andThen a (λ d. placedFrom (s .samples) (blockAnswer from to src (length old)))) o) in
-        (o ∙ q, step-refused q .1)
+    pub step-stays : {m p : ℕ} → answer ≡ refuses m p → StepAnswers answer old
+    step-stays {m} {p} e =
+        let q : refuses m p ≡ stepAnswer from to before answer src (length old) = sym (passed-left ∙ ap (λ a. andThen a (λ d. placedFrom before (blockAnswer from to src (length old)))) e) in
+        (e ∙ q, step-refused q .1)
 
-    pub step-block : s .answer ≡ rowed.Done → {b o : Outcome Success} {now : List ℕ} → BlockAnswers from to src old b now → o ≡ placedFrom (s .samples) b → StepAnswers o now
+    pub step-block : answer ≡ gives done → {b o : Outcome Success} {now : List ℕ} → BlockAnswers from to src old b now → o ≡ placedFrom before b → StepAnswers o now
     unfolding stepExit blockExit
     step-block e {b} {o} {now} w q =
-        let a : o ≡ stepAnswer from to s src (length old) = q ∙ ap (placedFrom (s .samples)) (w .0) ∙ sym (past-left ∙ ap (λ a. andThen (rowedOutcome a) (λ d. placedFrom (s .samples) (blockAnswer from to src (length old)))) e) in
-        let p : placedFrom (s .samples) (blockAnswer from to src (length old)) ≡ stepAnswer from to s src (length old) = ap (placedFrom (s .samples)) (sym (w .0)) ∙ sym q ∙ a in
-        (a, w .1 ∙ sym (same-left (s .samples) (blockAnswer from to src (length old)) (outputOf from to src) old) ∙ ap (λ r. bufferAfter r (outputOf from to src) old) p)
+        let a : o ≡ stepAnswer from to before answer src (length old) = q ∙ ap (placedFrom before) (w .0) ∙ sym (passed-left ∙ ap (λ a. andThen a (λ d. placedFrom before (blockAnswer from to src (length old)))) e) in
+        let p : placedFrom before (blockAnswer from to src (length old)) ≡ stepAnswer from to before answer src (length old) = ap (placedFrom before) (sym (w .0)) ∙ sym q ∙ a in
+        (a, w .1 ∙ sym (same-left before (blockAnswer from to src (length old)) (outputOf from to src) old) ∙ ap (λ r. bufferAfter r (outputOf from to src) old) p)

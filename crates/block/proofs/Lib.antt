@@ -1,3 +1,5 @@
 pub mod LittleEndian
 pub mod Samplings
 pub mod Blocks
+pub mod Joining
+pub mod Whole

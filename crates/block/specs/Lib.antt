@@ -1,3 +1,4 @@
 pub mod Samples
 pub mod Migrate
 pub mod Steps
+pub mod Theorem

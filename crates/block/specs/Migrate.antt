@@ -1,6 +1,6 @@
 -- The migration of a string of bytes from kind to kind, as a whole and block by block. RULES.md: Migration.
 use Prim.Native.Nat.{ℕ, _+_, _/_, _%_, _^_}
-use mathlib.Core.Bool.{Bool, true, false, not}
+use mathlib.Core.Bool.{not}
 use mathlib.Core.List.{List, _++_}
 use lib.Dec.{eqb, ltb}
 use lib.ListN.{length, drop}
@@ -9,9 +9,8 @@ use Rattle.value.specs.declared.Value.{Value}
 use Rattle.value.specs.Meaning.{bitsOf}
 use Rattle.value.specs.Outcome.{Outcome, gives, refuses, refuseIf, andThen, mapped, Success}
 use Rattle.convert.specs.Convert.{convertOf}
-use Rattle.row.specs.Row.{rowAnswer, rowResults, rowedOutcome}
+use Rattle.row.specs.Row.{rowAnswer, rowResults}
 use Rattle.block.specs.Samples.{bytesOf, countOf, leftOf, samplesOf, bytesFor}
-use Rattle.block.specs.declared.Progress.{Progress}
 
 -- ---- the whole
 
@@ -58,15 +57,15 @@ bufferAfter (refuses number place) output old = old
 unfoldable pub blockExit : Kind → Kind → List ℕ → List ℕ → List ℕ
 blockExit from to src old = bufferAfter (blockAnswer from to src (length old)) (outputOf from to src) old
 
--- the samples up to the end of the block
-unfoldable pub stepSamples : Kind → Progress → List ℕ → ℕ
-stepSamples from s src = counted (s .samples + countOf from src)
+-- after `before` samples, which were answered with `answer`: the samples up to the end of the block
+unfoldable pub stepSamples : Kind → ℕ → List ℕ → ℕ
+stepSamples from before src = counted (before + countOf from src)
 
 -- 9 for bytes left over; else an earlier refusal stays, and without one the block decides
-unfoldable pub stepAnswer : Kind → Kind → Progress → List ℕ → ℕ → Outcome Success
-stepAnswer from to s src room =
-    refuseIf (not (eqb (leftOf from src) 0)) 9 (stepSamples from s src)
-    (andThen (rowedOutcome (s .answer)) (λ d. placedFrom (s .samples) (blockAnswer from to src room)))
+unfoldable pub stepAnswer : Kind → Kind → ℕ → Outcome Success → List ℕ → ℕ → Outcome Success
+stepAnswer from to before answer src room =
+    refuseIf (not (eqb (leftOf from src) 0)) 9 (stepSamples from before src)
+    (andThen answer (λ d. placedFrom before (blockAnswer from to src room)))
 
-unfoldable pub stepExit : Kind → Kind → Progress → List ℕ → List ℕ → List ℕ
-stepExit from to s src old = bufferAfter (stepAnswer from to s src (length old)) (outputOf from to src) old
+unfoldable pub stepExit : Kind → Kind → ℕ → Outcome Success → List ℕ → List ℕ → List ℕ
+stepExit from to before answer src old = bufferAfter (stepAnswer from to before answer src (length old)) (outputOf from to src) old

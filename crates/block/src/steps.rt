@@ -71,9 +71,9 @@ fn placed(samples: usize, r: Rowed) -> Rowed
 
 // After a refusal the samples are only counted.
 pub fn convert_block(s: Progress, from: Kind, to: Kind, src: &[u8], dst: &mut [u8]) -> Progress
-    ensures samples { λ r. ⌜ r .samples ≡ stepSamples from s (now (src .entry)) ⌝ }
-    ensures answer { λ r. ⌜ rowedOutcome (r .answer) ≡ stepAnswer from to s (now (src .entry)) (length (now (dst .entry))) ⌝ }
-    ensures exit { λ _. ⌜ now (dst .exit) ≡ stepExit from to s (now (src .entry)) (now (dst .entry)) ⌝ }
+    ensures samples { λ r. ⌜ r .samples ≡ stepSamples from (s .samples) (now (src .entry)) ⌝ }
+    ensures answer { λ r. ⌜ rowedOutcome (r .answer) ≡ stepAnswer from to (s .samples) (rowedOutcome (s .answer)) (now (src .entry)) (length (now (dst .entry))) ⌝ }
+    ensures exit { λ _. ⌜ now (dst .exit) ≡ stepExit from to (s .samples) (rowedOutcome (s .answer)) (now (src .entry)) (now (dst .entry)) ⌝ }
 {
     let width = sample_bytes(from);
     let samples = wrapping_add_usize(s.samples, src.len() / width);

@@ -1,0 +1,90 @@
+-- Strings of bytes joined where whole samples end: counts add up, samples and outputs are joined, and the first refusal stays the first.
+use mathlib.Core.Path.{_≡_, refl, sym, _∙_, ap, subst}
+use mathlib.Core.List.{List, [], _∷_, _++_, append-assoc, append-nil}
+use Prim.Native.Nat.{ℕ, zero, suc, _+_, _*_, _/_, _%_, _^_, _≤_, _<_}
+use native.Mathlib.Nat.{zero-add, add-zero, add-comm, suc-add, add-suc, suc-mul, zero-mul, div-add-mod', add-mul-div-right, add-mul-mod-self-right, mod-eq-of-lt, le-refl}
+use native.Mathlib.Omega.{arith}
+use lib.ListN.{length, take, drop, length-append, length-drop}
+use lib.Seq.{take-append-le, drop-append-le}
+use Rattle.value.specs.declared.Kind.{Kind}
+use Rattle.value.specs.declared.Value.{Value}
+use Rattle.value.specs.Meaning.{valueOf}
+use Rattle.value.specs.Outcome.{Outcome, gives, refuses, andThen, Success, done}
+use Rattle.row.specs.Row.{rowAnswer, rowResults, sampleThen, sampleBefore}
+use Rattle.block.specs.Samples.{bytesOf, numberFrom, countOf, leftOf, samplesIn, samplesOf, bytesFor}
+use Rattle.block.specs.Migrate.{bitsTo, outputOf, placedFrom}
+use Rattle.block.proofs.Samplings.{bytes-range, length-samples, bytes-append}
+
+-- ---- rows joined
+
+module _ {A B : Type 0} (conv : A → Outcome B) where
+  sample-joined : (at : ℕ) (o : Outcome B) (r s : Outcome Success) → sampleThen at o (andThen r (λ d. s)) ≡ andThen (sampleThen at o r) (λ d. s)
+  sample-joined at (gives y) r s = refl
+  sample-joined at (refuses m p) r s = refl
+
+  pub answer-joined : (at : ℕ) (xs ys : List A) → rowAnswer conv at (xs ++ ys) ≡ andThen (rowAnswer conv at xs) (λ d. rowAnswer conv (at + length xs) ys)
+  unfolding rowAnswer
+  answer-joined at [] ys = rw (add-zero at) refl
+  answer-joined at (x ∷ xs) ys =
+      ap (sampleThen at (conv x)) (answer-joined (suc at) xs ys)
+      ∙ sample-joined at (conv x) (rowAnswer conv (suc at) xs) (rowAnswer conv (suc at + length xs) ys)
+      ∙ ap (λ (n : ℕ). andThen (sampleThen at (conv x) (rowAnswer conv (suc at) xs)) (λ d. rowAnswer conv n ys)) (omega arith)
+
+  before-joined : (o : Outcome B) (r s : List B) → sampleBefore o (r ++ s) ≡ sampleBefore o r ++ s
+  before-joined (gives y) r s = refl
+  before-joined (refuses m p) r s = refl
+
+  pub results-joined : (xs ys : List A) → rowResults conv (xs ++ ys) ≡ rowResults conv xs ++ rowResults conv ys
+  unfolding rowResults
+  results-joined [] ys = refl
+  results-joined (x ∷ xs) ys = ap (sampleBefore (conv x)) (results-joined xs ys) ∙ before-joined (conv x) (rowResults conv xs) (rowResults conv ys)
+
+  -- places counted from n on, below 2^64
+  sample-placed : (n at : ℕ) (o : Outcome B) (r : Outcome Success) → n + at < 2 ^ 64 → sampleThen (n + at) o (placedFrom n r) ≡ placedFrom n (sampleThen at o r)
+  sample-placed n at (gives y) r h = refl
+  sample-placed n at (refuses m p) r h = ap (refuses m) (sym (mod-eq-of-lt h))
+
+  pub answer-placed : (n at : ℕ) (ys : List A) → n + at + length ys < 2 ^ 64 → rowAnswer conv (n + at) ys ≡ placedFrom n (rowAnswer conv at ys)
+  unfolding rowAnswer
+  answer-placed n at [] h = refl
+  answer-placed n at (y ∷ ys) h =
+      ap (λ (k : ℕ). sampleThen (n + at) (conv y) (rowAnswer conv k ys)) (sym (add-suc n at))
+      ∙ ap (sampleThen (n + at) (conv y)) (answer-placed n (suc at) ys (omega arith))
+      ∙ sample-placed n at (conv y) (rowAnswer conv (suc at) ys) (omega arith)
+
+-- ---- bytes joined
+
+module _ (k : Kind) where
+  samples-joined : (n m : ℕ) (p b : List ℕ) → length p ≡ n * bytesOf k → samplesIn k (n + m) (p ++ b) ≡ samplesIn k n p ++ samplesIn k m b
+  unfolding samplesIn
+  samples-joined zero m [] b h = rw (zero-add m) refl
+  samples-joined zero m (x ∷ p) b h = absurd (omega (arith, h, zero-mul (bytesOf k)))
+  samples-joined (suc n) m p b h =
+      let w = bytesOf k in
+      let l : length p ≡ n * w + w = h ∙ suc-mul n w in
+      let inside : w ≤ length p = omega (arith, l) in
+      let rest : length (drop w p) ≡ n * w = length-drop w p ∙ omega (arith, l) in
+      rw (suc-add n m, take-append-le w p b inside, drop-append-le w p b inside, samples-joined n m (drop w p) b rest) refl
+
+  module _ (p b : List ℕ) (whole : leftOf k p ≡ 0) where
+    whole-length : length p ≡ countOf k p * bytesOf k
+    whole-length = sym (div-add-mod' (length p) (bytesOf k)) ∙ ap (λ (r : ℕ). countOf k p * bytesOf k + r) whole ∙ add-zero (countOf k p * bytesOf k)
+
+    joined-length : length (p ++ b) ≡ length b + countOf k p * bytesOf k
+    joined-length = length-append p b ∙ add-comm (length p) (length b) ∙ ap (λ (n : ℕ). length b + n) whole-length
+
+    pub count-joined : countOf k (p ++ b) ≡ countOf k p + countOf k b
+    count-joined = ap (λ (n : ℕ). n / bytesOf k) joined-length ∙ add-mul-div-right (length b) (countOf k p) (bytes-range k .0) ∙ add-comm (countOf k b) (countOf k p)
+
+    pub left-joined : leftOf k (p ++ b) ≡ leftOf k b
+    left-joined = ap (λ (n : ℕ). n % bytesOf k) joined-length ∙ add-mul-mod-self-right (length b) (countOf k p) (bytesOf k)
+
+    pub samples-of-joined : samplesOf k (p ++ b) ≡ samplesOf k p ++ samplesOf k b
+    samples-of-joined = ap (λ (n : ℕ). samplesIn k n (p ++ b)) count-joined ∙ samples-joined (countOf k p) (countOf k b) p b whole-length
+
+pub output-joined : (from to : Kind) (p b : List ℕ) → leftOf from p ≡ 0 → outputOf from to (p ++ b) ≡ outputOf from to p ++ outputOf from to b
+unfolding outputOf
+output-joined from to p b whole =
+    ap (λ s. bytesFor to (rowResults (bitsTo to) s)) (samples-of-joined from p b whole)
+    ∙ ap (bytesFor to) (results-joined (bitsTo to) (samplesOf from p) (samplesOf from b))
+    ∙ bytes-append to (rowResults (bitsTo to) (samplesOf from p)) (rowResults (bitsTo to) (samplesOf from b))

@@ -1,0 +1,182 @@
+// The blocks of a file, one after the other.
+ghost use Prim.Native.Nat.{_*_, _≤_, _<_};
+ghost use mathlib.Core.Path.{_≡_};
+ghost use lib.ListN.{length};
+ghost use Rattle.block.specs.Samples.{bytesOf};
+use crate::files::fill;
+use block::Progress;
+use block::convert_block;
+use block::sample_bytes;
+use block::start;
+use row::Rowed;
+use value::Kind;
+
+// Room for 32768 samples of any kind.
+pub(crate) type Buffer = [u8; 262144];
+
+// What stopped a run before its end: nothing, or a read or a write, with the system's number.
+pub enum Fault {
+    Nothing,
+    Reading(i32),
+    Writing(i32),
+}
+
+// Where a run stands; `turns` is how many blocks may still be read, 0 once the input has ended.
+pub struct State {
+    pub progress: Progress,
+    pub fault: Fault,
+    pub turns: u64,
+}
+
+// A block of input: how many bytes, whether a read failed, and whether more may follow.
+pub struct Block {
+    pub bytes: usize,
+    pub failed: bool,
+    pub full: bool,
+}
+
+pub(crate) fn large_buffer() -> Buffer
+    ensures { λ r. ⌜ 262144 ≡ length r ⌝ }
+{
+    [0; 262144]
+}
+
+// Moves the whole of input to output.
+pub(crate) fn run(
+    input: i32,
+    output: i32,
+    from: Kind,
+    to: Kind,
+    src: &mut Buffer,
+    dst: &mut Buffer,
+) -> State {
+    let mut r = State {
+        progress: start(),
+        fault: Fault::Nothing,
+        turns: u64::MAX,
+    };
+    while r.turns > 0 {
+        r = step(input, output, from, to, src, dst, r);
+        put_progress(r);
+    }
+    r
+}
+
+// Reads a block and moves it on.
+fn step(
+    input: i32,
+    output: i32,
+    from: Kind,
+    to: Kind,
+    src: &mut Buffer,
+    dst: &mut Buffer,
+    r: State,
+) -> State
+    requires { ⌜ 0 < r .turns ⌝ }
+    ensures { λ next. ⌜ next .turns < r .turns ⌝ }
+{
+    let before = r.progress;
+    let got = read_block(input, from, src);
+    if got.failed {
+        return State {
+            progress: before,
+            fault: Fault::Reading(os::errno()),
+            turns: 0,
+        };
+    }
+    let progress = convert(before, from, to, src, got.bytes, dst);
+    let fault = write_block(output, progress, from, to, dst, got.bytes);
+    State {
+        progress,
+        fault,
+        turns: turns_left(r.turns, got.full, fault),
+    }
+}
+
+// A block that isn't full is the last one, and so is one that couldn't be written.
+fn turns_left(turns: u64, full: bool, fault: Fault) -> u64
+    requires { ⌜ 0 < turns ⌝ }
+    ensures { λ r. ⌜ r < turns ⌝ }
+{
+    match fault {
+        Fault::Nothing => {
+            if full {
+                turns - 1
+            } else {
+                0
+            }
+        }
+        _ => 0,
+    }
+}
+
+// Reads up to 32768 samples.
+pub(crate) fn read_block(input: i32, from: Kind, src: &mut [u8]) -> Block
+    requires { ⌜ length (now src) ≡ 262144 ⌝ }
+    ensures { λ r. ⌜ (r .bytes ≤ 32768 * bytesOf from) × (r .bytes ≤ 262144) ⌝ }
+{
+    let size = 32768 * sample_bytes(from);
+    let got = fill(input, &mut src[..size]);
+    Block {
+        bytes: got.bytes,
+        failed: got.failed,
+        full: got.bytes == size,
+    }
+}
+
+fn convert(
+    before: Progress,
+    from: Kind,
+    to: Kind,
+    src: &[u8],
+    bytes: usize,
+    dst: &mut [u8],
+) -> Progress
+    requires { ⌜ bytes ≤ length (now src) ⌝ }
+{
+    convert_block(before, from, to, &src[..bytes], dst)
+}
+
+// How many bytes the samples of a block are in the other kind.
+fn output_bytes(from: Kind, to: Kind, bytes: usize) -> usize
+    requires { ⌜ bytes ≤ 32768 * bytesOf from ⌝ }
+    ensures { λ r. ⌜ r ≤ 262144 ⌝ }
+{
+    let samples = bytes / sample_bytes(from);
+    samples * sample_bytes(to)
+}
+
+// Writes what a block came to; after a refusal nothing more is written.
+fn write_block(
+    output: i32,
+    progress: Progress,
+    from: Kind,
+    to: Kind,
+    dst: &[u8],
+    bytes: usize,
+) -> Fault
+    requires { ⌜ (bytes ≤ 32768 * bytesOf from) × (length (now dst) ≡ 262144) ⌝ }
+{
+    let answer = progress.answer;
+    match answer {
+        Rowed::Done => {
+            let n = output_bytes(from, to, bytes);
+            if io::write_all(output, &dst[..n]) {
+                Fault::Nothing
+            } else {
+                Fault::Writing(os::errno())
+            }
+        }
+        Rowed::Refused(_) => Fault::Nothing,
+    }
+}
+
+// A line on standard error for every 2^27 samples, so that a long run is seen to go on.
+fn put_progress(r: State) {
+    let progress = r.progress;
+    if (r.turns > 0) & (r.turns % 4096 == 0) {
+        io::write_all(libc::STDERR_FILENO, b"samples so far: ");
+        io::print_decimal(libc::STDERR_FILENO, progress.samples as u64);
+        io::write_all(libc::STDERR_FILENO, b"\n");
+    }
+}
