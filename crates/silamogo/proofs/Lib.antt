@@ -3,3 +3,4 @@ pub mod Padding
 pub mod Pairs
 pub mod Filling
 pub mod RecordRules
+pub mod SampleRules

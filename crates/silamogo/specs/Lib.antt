@@ -1,3 +1,4 @@
 pub mod Answer
 pub mod Samples
 pub mod Records
+pub mod Single

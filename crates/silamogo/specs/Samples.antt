@@ -61,3 +61,17 @@ namedThen ns next = refuseIf (anyUnnamed ns) 7 0 next
 -- 4: bits that the kind doesn't have
 abbrev pub bitsThen : {A : Type 0} → List Sample → Outcome A → Outcome A
 bitsThen ss next = refuseIf (ltb (firstWide ss) (length ss)) 4 (firstWide ss) next
+
+-- ---- single samples, whose place is 0
+
+unfoldable pub anyWide : List Sample → Bool
+anyWide [] = false
+anyWide (s ∷ ss) = tooWide s || anyWide ss
+
+-- 7 and 4, of kind numbers and of samples
+abbrev pub samplesThen : {A : Type 0} → List ℕ → List Sample → Outcome A → Outcome A
+samplesThen ns ss next = namedThen ns (refuseIf (anyWide ss) 4 0 next)
+
+-- the number of the rule that holds, 0 for none
+abbrev pub ruleFor : Bool → Bool → ℕ
+ruleFor unnamed wide = cond unnamed 7 (cond wide 4 0)

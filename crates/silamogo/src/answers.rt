@@ -1,13 +1,21 @@
 // What the libraries answered, as numbers. RULES.md: The boundary.
 ghost use mathlib.Core.Path.{_≡_};
+ghost use Rattle.value.specs.Outcome.{gives, refuses};
+ghost use Rattle.cmp.specs.Choose.{chosenOutcome};
 ghost use Rattle.cmp.specs.Compare.{comparedOutcome};
+ghost use Rattle.convert.specs.Convert.{convertedOutcome};
 ghost use Rattle.key.specs.Key.{writtenOutcome};
-ghost use Rattle.silamogo.specs.Answer.{orderNumber, orderedOf, measuredOf};
+ghost use Rattle.silamogo.specs.Answer.{orderNumber, orderedOf, classNumber, sampledOf, measuredOf};
 use crate::Measured;
 use crate::Ordered;
+use crate::Sampled;
+use cmp::Chosen;
 use cmp::Compared;
+use convert::Converted;
+use float::Class;
 use float::Order;
 use key::Written;
+use value::Value;
 
 fn order_number(o: Order) -> u8
     ensures { λ r. ⌜ r ≡ orderNumber o ⌝ }
@@ -51,5 +59,57 @@ pub(crate) fn measured_by(w: Written) -> Measured
             place: f.place,
             length: 0,
         },
+    }
+}
+
+pub(crate) fn class_number(c: Class) -> u8
+    ensures { λ r. ⌜ r ≡ classNumber c ⌝ }
+{
+    match c {
+        Class::Zero => 0,
+        Class::Subnormal => 1,
+        Class::Normal => 2,
+        Class::Infinite => 3,
+        Class::Nan => 4,
+    }
+}
+
+fn sampled(v: Value) -> Sampled
+    ensures { λ r. ⌜ r ≡ sampledOf (gives v) ⌝ }
+{
+    Sampled {
+        number: 0,
+        place: 0,
+        kind: value::kind_number(value::kind_of(v)),
+        bits: value::bits_of(v),
+    }
+}
+
+pub(crate) fn sample_refused(number: u8, place: usize) -> Sampled
+    ensures { λ r. ⌜ r ≡ sampledOf (refuses number place) ⌝ }
+{
+    Sampled {
+        number,
+        place,
+        kind: 0,
+        bits: 0,
+    }
+}
+
+pub(crate) fn sampled_by(c: Chosen) -> Sampled
+    ensures { λ r. ⌜ r ≡ sampledOf (chosenOutcome c) ⌝ }
+{
+    match c {
+        Chosen::Is(v) => sampled(v),
+        Chosen::Refused(f) => sample_refused(f.number, f.place),
+    }
+}
+
+pub(crate) fn sampled_into(c: Converted) -> Sampled
+    ensures { λ r. ⌜ r ≡ sampledOf (convertedOutcome c) ⌝ }
+{
+    match c {
+        Converted::To(v) => sampled(v),
+        Converted::Refused(f) => sample_refused(f.number, f.place),
     }
 }

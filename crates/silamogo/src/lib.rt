@@ -3,10 +3,14 @@
 // 0 and 0 when the call is done (docs/RULES.md: The boundary).
 mod answers;
 mod fields;
+mod floats;
 mod records;
 mod rows;
 mod samples;
+mod singles;
 
+pub use floats::silamogo_classify;
+pub use floats::silamogo_position;
 pub use records::silamogo_key_read;
 pub use records::silamogo_key_write;
 pub use records::silamogo_record_compare;
@@ -15,6 +19,12 @@ pub use rows::silamogo_row_f32_to_u16;
 pub use rows::silamogo_row_u8_to_u16;
 pub use rows::silamogo_row_u16_to_f32;
 pub use rows::silamogo_row_u16_to_u8;
+pub use singles::silamogo_clamp;
+pub use singles::silamogo_compare;
+pub use singles::silamogo_convert;
+pub use singles::silamogo_max;
+pub use singles::silamogo_min;
+pub use singles::silamogo_total_order;
 
 // A sample: its kind's number, and its bits; a signed number in two's complement of its own width, all bits above are 0.
 #[repr(C)]

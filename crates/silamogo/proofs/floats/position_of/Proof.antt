@@ -1,0 +1,45 @@
+-- The position of the format; one of 32 bits fits 64.
+use mathlib.Core.Path.{_∙_}
+use borrow.Author.Needs.{needs}
+use lib.Dec.{lit≤}
+use mir.Syntax.{w32, w64}
+use mir.Val.{SFits}
+use mir.ValLaws.{toZ-ofZ}
+use Rattle.float.specs.Format.{positionOf}
+use Rattle.value.proofs.TwosComplement.{wider, recast, recast-back}
+use Rattle.silamogo.proofs.SampleRules.{f32-bits, is-f32, is-f64}
+use Rattle.silamogo.proofs.floats.position_of.Statement.{statement}
+use Rattle.silamogo.proofs.floats.position_of.Tie as tie
+
+cast-position-f32 : tie.Need-cast-position-f32
+cast-position-f32 c =
+    let start = c .before .before .before in
+    record { fits = f32-bits (start .args .s) (start .pre) (c .before .if1 .taken) }
+
+fits : (c : tie.After-position-f32) → SFits w32 (c .position-f32 .result)
+fits c = search needs
+
+cast-result : tie.Need-cast-result
+cast-result c = recast w64 (fits c) (wider w64 (lit≤ tt) (fits c))
+
+returns : tie.Need-returns
+returns c =
+    let is = c .before .before in
+    is-f32 positionOf (is .before .before .args .s) (is .if1 .taken) (recast-back w64 (fits c) (wider w64 (lit≤ tt) (fits c)) ∙ c .position-f32 .ensures)
+
+returns-2 : tie.Need-returns-2
+returns-2 c =
+    let is = c .before in
+    let f : SFits w64 (c .position-f64 .result) = search needs in
+    is-f64 positionOf (is .before .before .args .s) (is .if1 .left) (toZ-ofZ w64 _ f ∙ c .position-f64 .ensures)
+
+pub position-of-spec : {M : Type 1} → statement M
+position-of-spec =
+    tie.close
+    (tie.spec
+    cast-position-f32
+    (λ c κs. search needs)
+    cast-result
+    (λ c κs. search needs)
+    returns
+    returns-2)

@@ -1,0 +1,62 @@
+-- The calls on single samples: rules 7 and 4, then the library's call on the values. RULES.md: The boundary.
+use Prim.Native.Nat.{ℕ}
+use mathlib.Core.Bool.{Bool, not, _||_, cond}
+use mathlib.Core.List.{[], _∷_}
+use lib.Dec.{eqb}
+use lib.IntN.{ℤ}
+use Rattle.float.specs.declared.Class.{Class}
+use Rattle.float.specs.declared.Order.{Order}
+use Rattle.float.specs.Format.{classOf, positionOf}
+use Rattle.value.specs.declared.Value.{Value}
+use Rattle.value.specs.Outcome.{Outcome, gives, refuseIf}
+use Rattle.cmp.specs.Compare as cmp
+use Rattle.cmp.specs.Choose as choose
+use Rattle.convert.specs.Convert as convert
+use Rattle.silamogo.specs.declared.Sample.{Sample}
+use Rattle.silamogo.specs.Samples.{kindFor, anyWide, valueFor, samplesThen}
+
+-- ---- two samples, and three
+
+abbrev pub twoThen : {A : Type 0} → (Value → Value → Outcome A) → Sample → Sample → Outcome A
+twoThen call a b = samplesThen (a .kind ∷ b .kind ∷ []) (a ∷ b ∷ []) (call (valueFor a) (valueFor b))
+
+unfoldable pub compareOf : Sample → Sample → Outcome Order
+compareOf a b = twoThen cmp.compareOf a b
+
+unfoldable pub totalOf : Sample → Sample → Outcome Order
+totalOf a b = twoThen cmp.totalOf a b
+
+unfoldable pub minOf : Sample → Sample → Outcome Value
+minOf a b = twoThen choose.minOf a b
+
+unfoldable pub maxOf : Sample → Sample → Outcome Value
+maxOf a b = twoThen choose.maxOf a b
+
+unfoldable pub clampOf : Sample → Sample → Sample → Outcome Value
+clampOf v lower upper =
+    samplesThen (v .kind ∷ lower .kind ∷ upper .kind ∷ []) (v ∷ lower ∷ upper ∷ [])
+    (choose.clampOf (valueFor v) (valueFor lower) (valueFor upper))
+
+-- ---- to another kind
+
+unfoldable pub convertOf : Sample → ℕ → Outcome Value
+convertOf v to = samplesThen (v .kind ∷ to ∷ []) (v ∷ []) (convert.convertOf (valueFor v) (kindFor to))
+
+-- ---- patterns of the float kinds, 8 and 9
+
+-- 7: no float kind
+abbrev pub notFloat : ℕ → Bool
+notFloat n = not (eqb n 8 || eqb n 9)
+
+-- what a format tells of the bits
+abbrev pub ofFloat : {A : Type 0} → (ℕ → ℕ → ℕ → A) → Sample → A
+ofFloat tell s = cond (eqb (s .kind) 8) (tell 23 8 (s .bits)) (tell 52 11 (s .bits))
+
+abbrev pub floatThen : {A : Type 0} → Sample → Outcome A → Outcome A
+floatThen s next = refuseIf (notFloat (s .kind)) 7 0 (refuseIf (anyWide (s ∷ [])) 4 0 next)
+
+unfoldable pub classifyOf : Sample → Outcome Class
+classifyOf s = floatThen s (gives (ofFloat classOf s))
+
+unfoldable pub placeOf : Sample → Outcome ℤ
+placeOf s = floatThen s (gives (ofFloat positionOf s))

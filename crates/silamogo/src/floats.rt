@@ -1,0 +1,73 @@
+// Patterns of the float kinds: their class, their position. RULES.md: The boundary.
+ghost use mathlib.Core.Path.{_≡_};
+ghost use mathlib.Core.Bool.{false};
+ghost use Rattle.float.specs.Format.{classOf, positionOf};
+ghost use Rattle.silamogo.specs.Answer.{classedOf, placedOf};
+ghost use Rattle.silamogo.specs.Samples.{tooWide};
+ghost use Rattle.silamogo.specs.Single.{ofFloat, classifyOf, placeOf};
+use crate::Classed;
+use crate::Placed;
+use crate::Sample;
+use crate::answers::class_number;
+use crate::samples::rule_of_float;
+use float::Class;
+
+fn class_of(s: Sample) -> Class
+    requires { ⌜ tooWide s ≡ false ⌝ }
+    ensures { λ r. ⌜ r ≡ ofFloat classOf s ⌝ }
+{
+    if s.kind == 8 {
+        float::class_f32(s.bits as u32)
+    } else {
+        float::class_f64(s.bits)
+    }
+}
+
+fn position_of(s: Sample) -> i64
+    requires { ⌜ tooWide s ≡ false ⌝ }
+    ensures { λ r. ⌜ r ≡ ofFloat positionOf s ⌝ }
+{
+    if s.kind == 8 {
+        float::position_f32(s.bits as u32) as i64
+    } else {
+        float::position_f64(s.bits)
+    }
+}
+
+#[no_mangle]
+pub extern "C" fn silamogo_classify(s: Sample) -> Classed
+    ensures { λ r. ⌜ r ≡ classedOf (classifyOf s) ⌝ }
+{
+    let rule = rule_of_float(s);
+    if rule != 0 {
+        return Classed {
+            number: rule,
+            place: 0,
+            class: 0,
+        };
+    }
+    Classed {
+        number: 0,
+        place: 0,
+        class: class_number(class_of(s)),
+    }
+}
+
+#[no_mangle]
+pub extern "C" fn silamogo_position(s: Sample) -> Placed
+    ensures { λ r. ⌜ r ≡ placedOf (placeOf s) ⌝ }
+{
+    let rule = rule_of_float(s);
+    if rule != 0 {
+        return Placed {
+            number: rule,
+            place: 0,
+            position: 0,
+        };
+    }
+    Placed {
+        number: 0,
+        place: 0,
+        position: position_of(s),
+    }
+}
