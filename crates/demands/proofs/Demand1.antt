@@ -41,10 +41,10 @@ own-or-other : {A : Type 0} (same r s t u v : Bool) (own other : A)
 own-or-other true r s t u v own other = refl
 own-or-other false r s t u v own other = refl
 
-convertedTo : Value → Kind → Value
+pub convertedTo : Value → Kind → Value
 convertedTo v to = cond (eqb (kindNumber (kindOf v)) (kindNumber to)) v (madeIn to (exactOf v))
 
-convert-chain : (v : Value) (to : Kind) → convertOf v to ≡ chain (convertRules v to) (gives (convertedTo v to))
+pub convert-chain : (v : Value) (to : Kind) → convertOf v to ≡ chain (convertRules v to) (gives (convertedTo v to))
 unfolding convertOf intoOf convertedTo
 convert-chain v to = own-or-other (eqb (kindNumber (kindOf v)) (kindNumber to)) _ _ _ _ _ v (madeIn to (exactOf v))
 
@@ -58,7 +58,7 @@ sample-chain : {B : Type 0} (at : ℕ) (rules : List Rule) (y : B) (rest : Outco
 sample-chain at [] y rest = refl
 sample-chain at (rule n p holds ∷ rules) y rest = sample-if at n p holds (chain rules (gives y)) rest ∙ ap (refuseIf holds n at) (sample-chain at rules y rest)
 
-row-chain : {A B : Type 0} (conv : A → Outcome B) (rules : A → List Rule) (result : A → B) → ((x : A) → conv x ≡ chain (rules x) (gives (result x)))
+pub row-chain : {A B : Type 0} (conv : A → Outcome B) (rules : A → List Rule) (result : A → B) → ((x : A) → conv x ≡ chain (rules x) (gives (result x)))
     → (at : ℕ) (row : List A) → rowAnswer conv at row ≡ chain (eachOf rules at row) (gives done)
 unfolding rowAnswer eachOf
 row-chain conv rules result h at [] = refl
@@ -74,7 +74,7 @@ unfolding convertAnswer
 by-row conv rules result h src dst = by-chain (rowRules rules src dst) done (ap (refuseIf (not (eqb (length src) (length dst))) 9 0) (row-chain conv rules result h 0 src))
 
 -- a sample's conversion is that of its value
-through : {B : Type 0} (f : Value → B) (v : Value) (to : Kind) → mapped f (convertOf v to) ≡ chain (convertRules v to) (gives (f (convertedTo v to)))
+pub through : {B : Type 0} (f : Value → B) (v : Value) (to : Kind) → mapped f (convertOf v to) ≡ chain (convertRules v to) (gives (f (convertedTo v to)))
 through f v to = ap (mapped f) (convert-chain v to) ∙ chain-mapped f (convertRules v to) (gives (convertedTo v to))
 
 -- ---- the row clamp: its bounds are tested once, before the samples
@@ -101,25 +101,24 @@ by-row-clamp range row = by-chain (rowClampRules range row) done (go (not (isLes
 
 -- ---- keys: the fields' rules one behind the other
 
-nan-chain : {A : Type 0} (at : ℕ) (fs : List Field) (next : Outcome A) → nanThen at fs next ≡ chain (eachOf (λ (f : Field). rule 1 0 (isNone (exactOf (f .value))) ∷ []) at fs) next
+pub nan-chain : {A : Type 0} (at : ℕ) (fs : List Field) (next : Outcome A) → nanThen at fs next ≡ chain (eachOf (λ (f : Field). rule 1 0 (isNone (exactOf (f .value))) ∷ []) at fs) next
 unfolding nanThen eachOf
 nan-chain at [] next = refl
 nan-chain at (f ∷ fs) next = ap (refuseIf (isNone (exactOf (f .value))) 1 at) (nan-chain (suc at) fs next)
 
-by-write : (r : Record) (room : ℕ) → By (writeRules r room) (writeOf r room)
+pub write-chain : (r : Record) (room : ℕ) → writeOf r room ≡ chain (writeRules r room) (gives (length (keyOf (fieldsOf r))))
 unfolding writeOf
-by-write r room = by-chain (writeRules r room) (length (keyOf (fieldsOf r)))
-    (ap (λ o. refuseIf (badCount (r .count)) 11 0 (refuseIf (ltb room (length (keyOf (fieldsOf r)))) 10 0 o)) (nan-chain 0 (fieldsOf r) (gives (length (keyOf (fieldsOf r))))))
+write-chain r room = ap (λ o. refuseIf (badCount (r .count)) 11 0 (refuseIf (ltb room (length (keyOf (fieldsOf r)))) 10 0 o)) (nan-chain 0 (fieldsOf r) (gives (length (keyOf (fieldsOf r)))))
 
 -- the fields that are read where no rule holds
-fieldsRead : List Kind → List ℕ → List Field
+pub fieldsRead : List Kind → List ℕ → List Field
 fieldsRead [] key = []
 fieldsRead (k ∷ ks) key = fieldFor (valueOf k (bitsFrom (formOf k) (numberFrom 0 (take (bytesOf k) key)))) ∷ fieldsRead ks (drop (bytesOf k) key)
 
-canonical : Kind × List ℕ → List Rule
+pub canonical : Kind × List ℕ → List Rule
 canonical f = rule 12 0 (notCanonical (formOf (f .0)) (numberFrom 0 (f .1))) ∷ []
 
-read-chain : (at : ℕ) (ks : List Kind) (key : List ℕ) → readFields at ks key ≡ chain (eachOf canonical at (fieldBytes ks key)) (gives (fieldsRead ks key))
+pub read-chain : (at : ℕ) (ks : List Kind) (key : List ℕ) → readFields at ks key ≡ chain (eachOf canonical at (fieldBytes ks key)) (gives (fieldsRead ks key))
 unfolding readFields eachOf fieldsRead canonical
 read-chain at [] key = refl
 read-chain at (k ∷ ks) key =
@@ -128,11 +127,14 @@ read-chain at (k ∷ ks) key =
     ap (λ o. refuseIf (notCanonical (formOf k) n) 12 at (mapped (λ fs. fieldFor (valueOf k (bitsFrom (formOf k) n)) ∷ fs) o)) (read-chain (suc at) ks (drop (bytesOf k) key))
     ∙ ap (refuseIf (notCanonical (formOf k) n) 12 at) (chain-mapped (λ fs. fieldFor (valueOf k (bitsFrom (formOf k) n)) ∷ fs) rest (gives (fieldsRead ks (drop (bytesOf k) key))))
 
-by-read : (s : Shape) (key : List ℕ) → By (readRules s key) (readOf s key)
-unfolding readOf canonical
-by-read s key = by-chain (readRules s key) (recordOf (fieldsRead (kindsIn s) key))
-    (ap (λ o. refuseIf (badCount (s .count)) 11 0 (refuseIf (not (eqb (length key) (bytesIn (kindsIn s)))) 9 0 (mapped recordOf o))) (read-chain 0 (kindsIn s) key)
-    ∙ ap (λ o. refuseIf (badCount (s .count)) 11 0 (refuseIf (not (eqb (length key) (bytesIn (kindsIn s)))) 9 0 o)) (chain-mapped recordOf (eachOf canonical 0 (fieldBytes (kindsIn s) key)) (gives (fieldsRead (kindsIn s) key))))
+pub recordRead : Shape → List ℕ → Record
+recordRead s key = recordOf (fieldsRead (kindsIn s) key)
+
+pub shape-chain : (s : Shape) (key : List ℕ) → readOf s key ≡ chain (readRules s key) (gives (recordRead s key))
+unfolding readOf canonical recordRead
+shape-chain s key =
+    ap (λ o. refuseIf (badCount (s .count)) 11 0 (refuseIf (not (eqb (length key) (bytesIn (kindsIn s)))) 9 0 (mapped recordOf o))) (read-chain 0 (kindsIn s) key)
+    ∙ ap (λ o. refuseIf (badCount (s .count)) 11 0 (refuseIf (not (eqb (length key) (bytesIn (kindsIn s)))) 9 0 o)) (chain-mapped recordOf (eachOf canonical 0 (fieldBytes (kindsIn s) key)) (gives (fieldsRead (kindsIn s) key)))
 
 -- ---- all calls
 
@@ -169,8 +171,8 @@ by-its-rules = record {
   get-field = λ r at. by-chain (placeRules at) _ refl;
   push-field = λ r v. by-chain (placeRules (r .count)) _ refl;
   shape = λ r. by-chain (shapeRules r) _ refl;
-  write-key = by-write;
-  read-key = by-read;
+  write-key = λ r room. by-chain (writeRules r room) _ (write-chain r room);
+  read-key = λ s key. by-chain (readRules s key) _ (shape-chain s key);
 }
 
 -- ---- lent memory after a refusal

@@ -1,8 +1,10 @@
 pub mod Rules
 pub mod Demand1
+pub mod Boundary
 pub mod Floats
 pub mod Choosing
 pub mod Demand2
 pub mod Demand3
+pub mod Demands
 pub mod Determined
 pub mod Marked

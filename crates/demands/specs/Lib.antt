@@ -1,6 +1,8 @@
 pub mod Rules
 pub mod Demand1
+pub mod Boundary
 pub mod Demand2
 pub mod Demand3
+pub mod Demands
 pub mod Determined
 pub mod Marked

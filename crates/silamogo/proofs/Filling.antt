@@ -1,6 +1,6 @@
 -- A record and a shape while their places are filled, and a record's bits while they are written out.
 use mathlib.Core.Path.{_≡_, refl, sym, _∙_, ap}
-use mathlib.Core.List.{List, _++_, map, map-append}
+use mathlib.Core.List.{List, map, map-append}
 use Prim.Native.Nat.{ℕ, _+_, _≤_, _<_, min}
 use native.Mathlib.Numerals.{add-one}
 use native.Mathlib.Omega.{arith}
@@ -11,8 +11,6 @@ use Rattle.value.specs.declared.Kind.the-variants as kind
 use Rattle.value.specs.declared.Value.{Value}
 use Rattle.value.specs.declared.Value.the-variants.{U8}
 use Rattle.value.specs.Meaning.{bitsOf}
-use Rattle.record.specs.declared.Field.{Field}
-use Rattle.record.specs.declared.Place.{Place}
 use Rattle.record.specs.declared.Record.{Record}
 use Rattle.record.specs.declared.Shape.{Shape}
 use Rattle.record.specs.Record.{blank, blankShape, fieldFor, fieldsOf, placeFor}

@@ -2,13 +2,12 @@
 use mathlib.Core.Path.{_≡_, refl, sym, _∙_, ap}
 use mathlib.Core.Bool.{Bool, true, false, _||_}
 use mathlib.Core.List.{List, [], _∷_, map}
-use Prim.Native.Nat.{ℕ, zero, suc, _+_, _≤_, _<_, min}
+use Prim.Native.Nat.{ℕ, zero, suc, _+_, _≤_, _<_}
 use native.Mathlib.Numerals.{add-one}
 use native.Mathlib.Omega.{arith}
-use lib.ListN.{length, take, drop, set, getD, length-map, drop-of-length-le, List·getD-map}
+use lib.ListN.{length, drop, getD, length-map, drop-of-length-le, List·getD-map}
 use lib.Seq.{drop-cons}
 use Rattle.value.specs.declared.Value.{Value}
-use Rattle.record.specs.declared.Field.{Field}
 use Rattle.record.specs.Record.{fieldFor}
 use Rattle.silamogo.specs.declared.Sample.{Sample}
 use Rattle.silamogo.specs.Samples.{unnamed, anyUnnamed, tooWide, firstWide, valueFor}

@@ -3,10 +3,9 @@ use mathlib.Core.Path.{_≡_, refl, sym, _∙_, ap}
 use mathlib.Core.Bool.{Bool, true, false, not, _||_}
 use mathlib.Core.List.{List, map}
 use Prim.Native.Nat.{ℕ, _≤_, _<_}
-use lib.Dec.{eqb, ltb}
+use lib.Dec.{ltb}
 use lib.ListN.{length}
 use borrow.Author.Tests.{lt-ltb, le-ltb, eq-eqb, ne-eqb, eqb-true}
-use Rattle.float.specs.declared.Order.{Order}
 use Rattle.value.specs.declared.Refusal.{Refusal}
 use Rattle.value.specs.Outcome.{Outcome, gives, refuses, refuseIf}
 use Rattle.record.specs.declared.Record.{Record}

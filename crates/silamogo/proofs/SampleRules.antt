@@ -10,7 +10,7 @@ use Rattle.value.specs.declared.Value.{Value}
 use Rattle.value.specs.Outcome.{Outcome, refuses, refuseIf}
 use Rattle.cmp.specs.Choose as choose
 use Rattle.convert.specs.Convert as convert
-use Rattle.record.proofs.Steps.{or-false}
+use Rattle.float.proofs.Tests.{neither}
 use Rattle.silamogo.specs.declared.Sample.{Sample}
 use Rattle.silamogo.specs.Samples.{unnamed, anyUnnamed, kindFor, tooWide, anyWide, valueFor, ruleFor}
 use Rattle.silamogo.specs.Single.{twoThen, clampOf, convertOf, notFloat, ofFloat, floatThen}
@@ -109,7 +109,7 @@ module _ (s : Sample) {r : ℕ} (q : r ≡ ruleFor (notFloat (s .kind)) (anyWide
 
   pub float-narrow : r ≡ 0 → tooWide s ≡ false
   unfolding anyWide
-  float-narrow h = or-false (tooWide s) false (narrow (notFloat (s .kind)) (anyWide (s ∷ [])) (sym q ∙ h)) .0
+  float-narrow h = neither (tooWide s) false (narrow (notFloat (s .kind)) (anyWide (s ∷ [])) (sym q ∙ h)) .0
 
 -- the bits of an f32 have 32 bits
 pub f32-bits : (s : Sample) → tooWide s ≡ false → s .kind ≡ 8 → s .bits < 2 ^ 32

@@ -3,7 +3,6 @@ ghost use mathlib.Core.Path.{_≡_};
 ghost use mathlib.Core.List.{map};
 ghost use Prim.Native.Nat.{_≤_, min};
 ghost use lib.ListN.{length};
-ghost use Rattle.value.specs.Meaning.{bitsOf};
 ghost use Rattle.record.specs.Record.{fieldsOf, blankShape};
 ghost use Rattle.silamogo.specs.Samples.{anyUnnamed, firstWide};
 ghost use Rattle.silamogo.specs.Records.{samplesOf, recordFor, shapeFor, fieldBits};

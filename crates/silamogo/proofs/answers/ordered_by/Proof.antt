@@ -1,5 +1,5 @@
 -- Each arm knows what was answered.
-use mathlib.Core.Path.{_≡_, sym, _∙_, ap}
+use mathlib.Core.Path.{sym, _∙_, ap}
 use Prim.Native.Nat.{ℕ}
 use borrow.Author.Needs.{needs}
 use Rattle.cmp.specs.declared.Compared.{Compared}

@@ -2,7 +2,6 @@
 use mathlib.Core.Path.{refl}
 use Prim.Native.Nat.{_-_}
 use native.Mathlib.Omega.{arith}
-use lib.ListN.{length}
 use borrow.Author.Needs.{needs}
 use Rattle.record.proofs.Steps.{twelve}
 use Rattle.silamogo.proofs.Filling.{Written, written-more, written-all}

@@ -1,5 +1,5 @@
 -- The rules, then the class as a number.
-use mathlib.Core.Path.{_≡_, _∙_, ap}
+use mathlib.Core.Path.{_∙_, ap}
 use Prim.Native.Nat.{ℕ}
 use borrow.Author.Needs.{needs}
 use Rattle.float.specs.Format.{classOf}

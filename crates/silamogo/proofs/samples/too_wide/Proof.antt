@@ -1,5 +1,5 @@
 -- The bits are above the highest of the kind.
-use mathlib.Core.Path.{_≡_, _∙_, ap}
+use mathlib.Core.Path.{_∙_, ap}
 use Prim.Native.Nat.{ℕ, _-_, _^_}
 use borrow.Author.Needs.{needs}
 use lib.Dec.{ltb}

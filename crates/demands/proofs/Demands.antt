@@ -1,0 +1,9 @@
+-- The three demands hold.
+use Rattle.demands.specs.Demands.{Demands}
+use Rattle.demands.proofs.Demand1.{demand-1}
+use Rattle.demands.proofs.Boundary.{at-the-boundary}
+use Rattle.demands.proofs.Demand2.{demand-2}
+use Rattle.demands.proofs.Demand3.{demand-3}
+
+pub the-demands : Demands
+the-demands = record { first = demand-1; first-at-the-boundary = at-the-boundary; second = demand-2; third = demand-3 }

@@ -1,0 +1,11 @@
+-- The three demands, as one claim. RULES.md: What a contract has to say.
+use Rattle.demands.specs.Demand1.{Demand1}
+use Rattle.demands.specs.Boundary.{AtTheBoundary}
+use Rattle.demands.specs.Demand2.{Demand2}
+use Rattle.demands.specs.Demand3.{Demand3}
+
+pub record Demands : Type 1 where
+  pub first : Demand1
+  pub first-at-the-boundary : AtTheBoundary
+  pub second : Demand2
+  pub third : Demand3
