@@ -4,3 +4,4 @@ pub mod Pairs
 pub mod Filling
 pub mod RecordRules
 pub mod SampleRules
+pub mod Determined
