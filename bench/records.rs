@@ -9,7 +9,7 @@ use crate::rust_records as rust;
 use crate::table::Line;
 
 const COUNT: usize = 4096;
-const ROUNDS: usize = 400;
+const ROUNDS: usize = 1000;
 
 /// u16, i16, f32; and every kind at least once.
 const SHAPES: [(&str, &[u8]); 2] = [("3 fields", &[1, 5, 8]), ("12 fields", &[0, 5, 8, 3, 1, 9, 4, 2, 7, 8, 6, 9])];
