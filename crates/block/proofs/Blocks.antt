@@ -1,12 +1,11 @@
 -- What one sample, a block and a step answer and leave, by what the passes found.
-use mathlib.Core.Path.{_≡_, refl, sym, _∙_, ap, subst}
-use mathlib.Core.Bool.{Bool, true, false, not, true≢false}
+use mathlib.Core.Path.{_≡_, refl, sym, _∙_, ap}
+use mathlib.Core.Bool.{Bool, true, false, true≢false}
 use mathlib.Core.List.{List, _++_, map}
 use Prim.Native.Nat.{ℕ, _+_, _*_, _/_, _%_, _^_, _≤_, _<_}
 use native.Mathlib.Nat.{zero-add}
 use native.Mathlib.Omega.{arith}
 use borrow.Author.Tests.{lt-ltb, le-ltb, eq-eqb, ne-eqb}
-use lib.Dec.{eqb, ltb}
 use lib.ListN.{length, drop, getD, length-map}
 use lib.Seq.{sets, sets-eq}
 use Rattle.value.specs.declared.Kind.{Kind}
@@ -18,7 +17,7 @@ use Rattle.convert.specs.Convert.{convertOf}
 use Rattle.row.specs.Row.{rowAnswer, rowResults, first}
 use Rattle.row.proofs.Scan.{first-all, first-hit}
 use Rattle.row.proofs.Rows.{row-refused, row-done}
-use Rattle.block.specs.Samples.{bytesOf, countOf, leftOf, samplesIn, samplesOf, bytesFor}
+use Rattle.block.specs.Samples.{bytesOf, countOf, leftOf, samplesOf, bytesFor}
 use Rattle.block.specs.Migrate.{bitsTo, outputOf, placedFrom, blockAnswer, bufferAfter, blockExit, stepSamples, stepAnswer, stepExit}
 use Rattle.block.specs.Steps.{isRefused, numberIn, bitsIn, refusedTo, bitsFor}
 use Rattle.block.proofs.Samplings.{room-inside, length-samples, length-bytes}

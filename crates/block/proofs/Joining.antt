@@ -1,19 +1,17 @@
 -- Strings of bytes joined where whole samples end: counts add up, samples and outputs are joined, and the first refusal stays the first.
-use mathlib.Core.Path.{_≡_, refl, sym, _∙_, ap, subst}
-use mathlib.Core.List.{List, [], _∷_, _++_, append-assoc, append-nil}
+use mathlib.Core.Path.{_≡_, refl, sym, _∙_, ap}
+use mathlib.Core.List.{List, [], _∷_, _++_}
 use Prim.Native.Nat.{ℕ, zero, suc, _+_, _*_, _/_, _%_, _^_, _≤_, _<_}
-use native.Mathlib.Nat.{zero-add, add-zero, add-comm, suc-add, add-suc, suc-mul, zero-mul, div-add-mod', add-mul-div-right, add-mul-mod-self-right, mod-eq-of-lt, le-refl}
+use native.Mathlib.Nat.{zero-add, add-zero, add-comm, suc-add, add-suc, suc-mul, zero-mul, div-add-mod', add-mul-div-right, add-mul-mod-self-right, mod-eq-of-lt}
 use native.Mathlib.Omega.{arith}
-use lib.ListN.{length, take, drop, length-append, length-drop}
+use lib.ListN.{length, drop, length-append, length-drop}
 use lib.Seq.{take-append-le, drop-append-le}
 use Rattle.value.specs.declared.Kind.{Kind}
-use Rattle.value.specs.declared.Value.{Value}
-use Rattle.value.specs.Meaning.{valueOf}
-use Rattle.value.specs.Outcome.{Outcome, gives, refuses, andThen, Success, done}
+use Rattle.value.specs.Outcome.{Outcome, gives, refuses, andThen, Success}
 use Rattle.row.specs.Row.{rowAnswer, rowResults, sampleThen, sampleBefore}
-use Rattle.block.specs.Samples.{bytesOf, numberFrom, countOf, leftOf, samplesIn, samplesOf, bytesFor}
+use Rattle.block.specs.Samples.{bytesOf, countOf, leftOf, samplesIn, samplesOf, bytesFor}
 use Rattle.block.specs.Migrate.{bitsTo, outputOf, placedFrom}
-use Rattle.block.proofs.Samplings.{bytes-range, length-samples, bytes-append}
+use Rattle.block.proofs.Samplings.{bytes-range, bytes-append}
 
 -- ---- rows joined
 

@@ -1,9 +1,8 @@
 -- Where the samples of a string of bytes stand, and the bytes that samples make.
 use mathlib.Core.Path.{_≡_, refl, sym, _∙_, ap, subst}
-use mathlib.Core.Bool.{Bool, true, false}
 use mathlib.Core.List.{List, [], _∷_, _++_, map, append-assoc, append-nil}
-use Prim.Native.Nat.{ℕ, zero, suc, _+_, _*_, _/_, _%_, _≤_, _<_}
-use native.Mathlib.Nat.{div-mul-le-self, le-div-iff-mul-le, zero-mul, suc-mul, add-comm, le-trans, mul-le-mul-right, le-of-suc-le-suc, not-suc-le-zero, zero-add, add-suc}
+use Prim.Native.Nat.{ℕ, zero, suc, _+_, _*_, _/_, _≤_, _<_}
+use native.Mathlib.Nat.{div-mul-le-self, le-div-iff-mul-le, zero-mul, suc-mul, add-comm, le-trans, mul-le-mul-right, le-of-suc-le-suc, not-suc-le-zero, zero-add}
 use native.Mathlib.Numerals.{add-one}
 use native.Mathlib.Omega.{arith}
 use lib.Dec.{lit≤, lit<}
@@ -117,8 +116,7 @@ module _ (k : Kind) (f : Value → ℕ) (s : List Value) (old : List ℕ) where
     pub fill-step : (now : List ℕ) (place u : ℕ) → place ≡ i * bytesOf k → u ≡ bytesOf k → Filled now i → {new : List ℕ} → new ≡ sets now place (littleEndian u b) → Filled new (i + 1)
     fill-step now place u p q g e =
         let here : place ≡ 0 + length filled = p ∙ sym (zero-add (length filled) ∙ filled-length) in
-        let own : sets now place (littleEndian u b) ≡ sets (sets old 0 filled) (0 + length filled) (littleEndian (bytesOf k) b) = rw (g .1, here, q) refl in
-        (
+        let own : sets now place (littleEndian u b) ≡ sets (sets old 0 filled) (0 + length filled) (littleEndian (bytesOf k) b) = rw (g .1, here, q) refl in (
           ap length e ∙ length-sets now place (littleEndian u b) ∙ g .0,
           e ∙ own ∙ sets-append filled (littleEndian (bytesOf k) b) old 0 ∙ ap (sets old 0) (sym fill-more),
         )

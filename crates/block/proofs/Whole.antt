@@ -2,12 +2,11 @@
 use mathlib.Core.Path.{_≡_, refl, sym, _∙_, ap, subst}
 use mathlib.Core.Bool.{Bool, not}
 use mathlib.Core.Logic.{inl, inr}
-use mathlib.Core.List.{List, [], _∷_, _++_, append-assoc, append-nil}
+use mathlib.Core.List.{List, [], _++_, append-assoc, append-nil}
 use Prim.Native.Nat.{ℕ, _+_, _/_, _^_, _≤_, _<_}
-use native.Mathlib.Nat.{add-zero, zero-add, zero-div, zero-mod, div-le-self, mod-eq-of-lt, lt-of-le-of-lt, le-trans}
+use native.Mathlib.Nat.{add-zero, zero-add, zero-div, zero-mod, div-le-self, mod-eq-of-lt, lt-of-le-of-lt}
 use native.Mathlib.Omega.{arith}
 use borrow.Author.Tests.{eq-eqb, ne-eqb}
-use lib.Dec.{eqb}
 use lib.ListN.{length, length-append}
 use Rattle.float.proofs.Naturals.{lt-or-ge}
 use Rattle.value.specs.declared.Kind.{Kind}
@@ -91,8 +90,7 @@ module _ (from to : Kind) (room : ℕ) where
     unfolding migrateOf answerOf
     step-left h =
         let left : leftOf from (p ++ b) ≡ 0 → ⊥ = λ q. h (sym (left-joined from p b (st .whole)) ∙ q) in
-        let o : stepAnswer from to (r .samples) (r .answer) b room ≡ refuses 9 (countOf from (p ++ b)) = sym (left-over from to (r .samples) (r .answer) b room h) ∙ ap (refuses 9) step-counted in
-        (
+        let o : stepAnswer from to (r .samples) (r .answer) b room ≡ refuses 9 (countOf from (p ++ b)) = sym (left-over from to (r .samples) (r .answer) b room h) ∙ ap (refuses 9) step-counted in (
           step-counted,
           ap (mapped (λ d. stepped from to room r b .output)) o
               ∙ sym (ap (λ (t : Bool). mapped (λ d. outputOf from to (p ++ b)) (refuseIf (not t) 9 (countOf from (p ++ b)) (rowAnswer (bitsTo to) 0 (samplesOf from (p ++ b))))) (ne-eqb (leftOf from (p ++ b)) 0 left)),

@@ -1,10 +1,10 @@
 // A block of samples behind the samples before it. RULES.md: Migration.
 ghost use mathlib.Core.Path.{_≡_};
-ghost use Prim.Native.Nat.{_+_, _/_, _≤_};
+ghost use Prim.Native.Nat.{_/_, _≤_};
 ghost use lib.ListN.{length};
 ghost use Rattle.row.specs.Row.{rowedOutcome};
 ghost use Rattle.block.specs.Samples.{bytesOf, countOf};
-ghost use Rattle.block.specs.Migrate.{counted, placedFrom, blockAnswer, blockExit, stepSamples, stepAnswer, stepExit};
+ghost use Rattle.block.specs.Migrate.{placedFrom, blockAnswer, blockExit, stepSamples, stepAnswer, stepExit};
 use crate::Progress;
 use crate::passes::first_refused;
 use crate::passes::write_samples;
@@ -89,9 +89,6 @@ pub fn convert_block(s: Progress, from: Kind, to: Kind, src: &[u8], dst: &mut [u
             samples,
             answer: placed(s.samples, block(from, to, src, dst)),
         },
-        Rowed::Refused(_) => Progress {
-            samples,
-            answer,
-        },
+        Rowed::Refused(_) => Progress { samples, answer },
     }
 }

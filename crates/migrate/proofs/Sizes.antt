@@ -3,7 +3,7 @@ use Prim.Native.Nat.{ℕ, _*_, _/_, _≤_, _<_}
 use native.Mathlib.Nat.{le-trans, mul-le-mul-right, div-lt-iff-lt-mul, min-le-left}
 use native.Mathlib.Omega.{arith}
 use mathlib.Core.List.{List}
-use mathlib.Core.Path.{_≡_, sym, subst}
+use mathlib.Core.Path.{sym, subst}
 use lib.ListN.{length, take, length-take}
 
 pub output-room : (b u w : ℕ) → 0 < u → b ≤ 32768 * u → w ≤ 8 → b / u * w ≤ 262144

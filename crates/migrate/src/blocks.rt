@@ -99,13 +99,7 @@ fn turns_left(turns: u64, full: bool, fault: Fault) -> u64
     ensures { λ r. ⌜ r < turns ⌝ }
 {
     match fault {
-        Fault::Nothing => {
-            if full {
-                turns - 1
-            } else {
-                0
-            }
-        }
+        Fault::Nothing => { if full { turns - 1 } else { 0 } }
         _ => 0,
     }
 }

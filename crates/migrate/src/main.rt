@@ -8,7 +8,6 @@ mod moves;
 use lines::put_error;
 use moves::migrate;
 use text::kind_named;
-use text::word_number;
 use value::KindFound;
 
 fn main() {

@@ -56,15 +56,7 @@ fn migrate_beside(input: i32, from: Kind, to: Kind, path: &[u8; 4096], n: usize)
 }
 
 // The names are the first n and the first m bytes.
-fn migrate_named(
-    input: i32,
-    from: Kind,
-    to: Kind,
-    path: &[u8],
-    n: usize,
-    part: &[u8],
-    m: usize,
-)
+fn migrate_named(input: i32, from: Kind, to: Kind, path: &[u8], n: usize, part: &[u8], m: usize)
     requires { ⌜ (n ≤ length (now path)) × (m ≤ length (now part)) ⌝ }
 {
     migrate_to(input, from, to, &path[..n], &part[..m]);

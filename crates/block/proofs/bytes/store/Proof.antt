@@ -1,6 +1,5 @@
 -- What is left to lay down, laid into what stands there, is the whole.
 use mathlib.Core.Path.{refl}
-use native.Mathlib.Omega.{arith}
 use Rattle.block.proofs.LittleEndian.{Laying, lay-step, lay-end}
 use borrow.Author.Needs.{needs}
 use Rattle.block.proofs.bytes.store.Statement.{statement}

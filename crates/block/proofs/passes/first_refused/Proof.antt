@@ -1,6 +1,6 @@
 -- Up to i no sample is refused.
 use mathlib.Core.Path.{_≡_, refl, sym, _∙_, ap}
-use Prim.Native.Nat.{ℕ, _+_, _-_, _*_, _≤_, _<_}
+use Prim.Native.Nat.{_+_, _-_, _*_, _≤_, _<_}
 use native.Mathlib.Nat.{zero-mul}
 use native.Mathlib.Omega.{arith}
 use lib.ListN.{length, getD}
@@ -36,8 +36,8 @@ sample-at-requires c κs = inside c
 -- what was asked is asked of the sample at i
 tested : (c : tie.After-is-refused Inv-loop μ-loop)
     → (let b = c .before .before .before in
-       let a = b .before .before .before .args in
-       refusedTo (a .to) (getD (samplesIn (a .from) (a .n) (a .src .now)) (b .loop .i) (U8 0)) ≡ c .is-refused .result)
+    let a = b .before .before .before .args in
+    refusedTo (a .to) (getD (samplesIn (a .from) (a .n) (a .src .now)) (b .loop .i) (U8 0)) ≡ c .is-refused .result)
 tested c =
     let turn = c .before .before in
     let b = turn .before in
@@ -69,8 +69,7 @@ loop-again : tie.Need-loop-again Inv-loop μ-loop
 loop-again c =
     let turn = c .before .before .before in
     let b = turn .before in
-    let a = b .before .before .before .args in
-    (
+    let a = b .before .before .before .args in (
       next-place (b .loop .i) (bytesOf (a .from)) (b .loop .inv .0) (b .before .sample-bytes .ensures .0),
       reach-step (refusedTo (a .to)) 0 (samplesIn (a .from) (a .n) (a .src .now)) (b .loop .i) (U8 0) (below turn) (b .loop .inv .1) (tested (c .before) ∙ c .if1 .left),
     )

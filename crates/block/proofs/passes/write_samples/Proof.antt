@@ -1,6 +1,6 @@
 -- The first i conversions are laid down.
-use mathlib.Core.Path.{_≡_, refl, sym, _∙_, ap}
-use Prim.Native.Nat.{ℕ, _+_, _-_, _*_, _≤_, _<_}
+use mathlib.Core.Path.{_≡_, refl, sym}
+use Prim.Native.Nat.{_+_, _-_, _*_, _≤_, _<_}
 use native.Mathlib.Nat.{zero-mul}
 use native.Mathlib.Omega.{arith}
 use lib.ListN.{length}
@@ -67,8 +67,7 @@ loop-again c =
     let a = b .before .before .before .before .before .args in
     let s = samplesIn (a .from) (a .n) (a .src .now) in
     let below : b .loop .i < length s = omega (arith, length-samples (a .from) (a .n) (a .src .now), turn .loop-test .taken) in
-    let own = sample-is (a .from) (a .n) (a .src .now) (b .loop .i) (U8 0) (turn .loop-test .taken) (b .loop .inv .1) (made .before .sample-at .ensures) in
-    (
+    let own = sample-is (a .from) (a .n) (a .src .now) (b .loop .i) (U8 0) (turn .loop-test .taken) (b .loop .inv .1) (made .before .sample-at .ensures) in (
       omega (arith, turn .loop-test .taken),
       next-place (b .loop .i) (bytesOf (a .from)) (b .loop .inv .1) (b .before .before .sample-bytes .ensures .0),
       next-place (b .loop .i) (bytesOf (a .to)) (b .loop .inv .2) (b .before .sample-bytes2 .ensures .0),

@@ -1,5 +1,5 @@
 -- The value of the bits that the sample's bytes make.
-use mathlib.Core.Path.{_≡_, _∙_, ap}
+use mathlib.Core.Path.{_∙_, ap}
 use Prim.Native.Nat.{ℕ}
 use lib.ListN.{take, drop}
 use Rattle.value.specs.Meaning.{valueOf}

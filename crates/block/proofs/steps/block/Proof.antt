@@ -1,5 +1,5 @@
 -- Without room it is refused; with room its samples decide.
-use mathlib.Core.Path.{_≡_, sym, _∙_, ap}
+use mathlib.Core.Path.{_∙_, ap}
 use Prim.Native.Nat.{ℕ, _/_}
 use lib.ListN.{length}
 use Rattle.row.specs.Row.{rowedOutcome}

@@ -1,5 +1,5 @@
 -- Bytes left over; then an earlier refusal; then the block.
-use mathlib.Core.Path.{_≡_, sym, _∙_, ap}
+use mathlib.Core.Path.{sym, _∙_, ap}
 use Prim.Native.Nat.{ℕ, _%_}
 use lib.ListN.{length}
 use Rattle.value.specs.Outcome.{refuses}
@@ -27,8 +27,7 @@ returns-2 c =
     let counted = passed .before in
     let asked = counted .before in
     let a = asked .before .before .before .args in
-    let none = sym (ap (λ (w : ℕ). length (a .src .now) % w) (asked .sample-bytes .ensures .0)) ∙ passed .if1 .left in
-    (
+    let none = sym (ap (λ (w : ℕ). length (a .src .now) % w) (asked .sample-bytes .ensures .0)) ∙ passed .if1 .left in (
       step-count (a .from) (a .to) (a .s .samples) (rowedOutcome (a .s .answer)) (a .src .now) (a .dst .now) (asked .sample-bytes .ensures .0) (counted .wrapping-add-usize .ensures),
       step-block (a .from) (a .to) (a .s .samples) (rowedOutcome (a .s .answer)) (a .src .now) (a .dst .now) none (ap rowedOutcome (told .enum-told .given .1)) (blocked .block .ensures) (c .placed .ensures),
     )
@@ -39,8 +38,7 @@ returns-3 c =
     let counted = passed .before in
     let asked = counted .before in
     let a = asked .before .before .before .args in
-    let none = sym (ap (λ (w : ℕ). length (a .src .now) % w) (asked .sample-bytes .ensures .0)) ∙ passed .if1 .left in
-    (
+    let none = sym (ap (λ (w : ℕ). length (a .src .now) % w) (asked .sample-bytes .ensures .0)) ∙ passed .if1 .left in (
       step-count (a .from) (a .to) (a .s .samples) (rowedOutcome (a .s .answer)) (a .src .now) (a .dst .now) (asked .sample-bytes .ensures .0) (counted .wrapping-add-usize .ensures),
       step-stays (a .from) (a .to) (a .s .samples) (rowedOutcome (a .s .answer)) (a .src .now) (a .dst .now) none (ap rowedOutcome (c .enum-told2 .given .1)),
     )

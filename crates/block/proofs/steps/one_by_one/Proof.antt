@@ -1,5 +1,5 @@
 -- The looking pass found a sample that is refused, or none.
-use mathlib.Core.Path.{_≡_, refl, sym, _∙_, ap}
+use mathlib.Core.Path.{refl, sym, _∙_, ap}
 use Prim.Native.Nat.{ℕ, _+_, _*_, _≤_}
 use native.Mathlib.Omega.{arith}
 use mathlib.Core.List.{map}
@@ -23,8 +23,8 @@ first-refused-requires c κs = let s = c .before .before in count-inside (s .arg
 -- the bytes of the sample that is refused are inside
 inside : (c : tie.After-sample-bytes)
     → (let found = c .before .before in
-       let s = found .before .before .before in
-       found .first-refused .result * c .sample-bytes .result + bytesOf (s .args .from) ≤ length (s .args .src .now))
+    let s = found .before .before .before in
+    found .first-refused .result * c .sample-bytes .result + bytesOf (s .args .from) ≤ length (s .args .src .now))
 inside c =
     let found = c .before .before in
     let s = found .before .before .before in

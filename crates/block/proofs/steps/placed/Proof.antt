@@ -1,5 +1,5 @@
 -- Done stays done; a place moves by the samples before.
-use mathlib.Core.Path.{_≡_, sym, _∙_, ap}
+use mathlib.Core.Path.{sym, _∙_, ap}
 use Prim.Native.Nat.{ℕ}
 use Rattle.value.specs.Outcome.{refuses}
 use Rattle.row.specs.declared.Rowed.{Rowed}
