@@ -57,7 +57,7 @@ module _ (from to : Kind) (src old : List ℕ) where
   abbrev pub BlockAnswers : Outcome Success → List ℕ → Type 0
   BlockAnswers answer left = (answer ≡ blockAnswer from to src (length old)) × (left ≡ blockExit from to src old)
 
-  block-refused : {m p : ℕ} → refuses m p ≡ blockAnswer from to src (length old) → BlockAnswers (refuses m p) old
+  pub block-refused : {m p : ℕ} → refuses m p ≡ blockAnswer from to src (length old) → BlockAnswers (refuses m p) old
   unfolding blockExit
   block-refused q = (q, kept (outputOf from to src) old q)
 
@@ -67,6 +67,17 @@ module _ (from to : Kind) (src old : List ℕ) where
 
   pub block-short : length old / bytesOf to < countOf from src → BlockAnswers (refuses 9 0) old
   block-short h = block-refused (no-room h)
+
+  -- what a block without a refusal leaves
+  pub block-output : (rs : List ℕ) → countOf from src ≤ length old / bytesOf to → gives done ≡ blockAnswer from to src (length old) → rowResults (bitsTo to) samples ≡ rs → length rs ≡ countOf from src
+      → {now : List ℕ} → now ≡ sets old 0 (bytesFor to rs) → BlockAnswers (gives done) now
+  unfolding blockExit outputOf
+  block-output rs room o r many {now} q =
+      let out = bytesFor to rs in
+      let size : length out ≡ countOf from src * bytesOf to = length-bytes to rs ∙ ap (λ (m : ℕ). m * bytesOf to) many in
+      let fits : 0 + length out ≤ length old = rw (zero-add (length out), size) (room-inside to room) in
+      let laid : now ≡ out ++ drop (length out) old = q ∙ sets-eq out old 0 fits ∙ ap (λ (m : ℕ). out ++ drop m old) (zero-add (length out)) in
+      (o, laid ∙ ap (λ (l : List ℕ). l ++ drop (length l) old) (ap (bytesFor to) (sym r)) ∙ ap (λ a. bufferAfter a (bytesFor to (rowResults (bitsTo to) samples)) old) o)
 
   module _ (room : countOf from src ≤ length old / bytesOf to) (i : ℕ) (i-is : i ≡ first (refusedTo to) samples) where
     passed : blockAnswer from to src (length old) ≡ rowAnswer (bitsTo to) 0 samples
@@ -86,16 +97,10 @@ module _ (from to : Kind) (src old : List ℕ) where
         block-refused (sym (passed ∙ r ∙ ap (λ (j : ℕ). refuses m j) (zero-add (first (refusedTo to) samples) ∙ sym i-is)))
 
     pub block-done : countOf from src ≤ i → {now : List ℕ} → now ≡ sets old 0 (bytesFor to (map (bitsFor to) samples)) → BlockAnswers (gives done) now
-    unfolding blockExit outputOf
     block-done h {now} q =
         let all = first-all (refusedTo to) samples i i-is (omega (arith, count-is)) in
         let r = row-done (bitsTo to) (refusedTo to) (bitsFor to) (λ v. Unit {0}) (U8 0) (λ v u t. given-bits (bitsTo to v) t) 0 samples (λ j k. tt) all in
-        let out = bytesFor to (map (bitsFor to) samples) in
-        let size : length out ≡ countOf from src * bytesOf to = length-bytes to (map (bitsFor to) samples) ∙ ap (λ (m : ℕ). m * bytesOf to) (length-map samples (bitsFor to) ∙ count-is) in
-        let fits : 0 + length out ≤ length old = rw (zero-add (length out), size) (room-inside to room) in
-        let laid : now ≡ out ++ drop (length out) old = q ∙ sets-eq out old 0 fits ∙ ap (λ (m : ℕ). out ++ drop m old) (zero-add (length out)) in
-        let o : gives done ≡ blockAnswer from to src (length old) = sym (passed ∙ r .0) in
-        (o, laid ∙ ap (λ (l : List ℕ). l ++ drop (length l) old) (ap (bytesFor to) (sym (r .1))) ∙ ap (λ a. bufferAfter a (bytesFor to (rowResults (bitsTo to) samples)) old) o)
+        block-output (map (bitsFor to) samples) room (sym (passed ∙ r .0)) (r .1) (length-map samples (bitsFor to) ∙ count-is) q
 
 -- both counts by the numbers of bytes that the code asked for
 pub shorter : (l m : ℕ) {u v x y : ℕ} → u ≡ x → v ≡ y → l / v < m / u → l / y < m / x

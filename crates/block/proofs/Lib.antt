@@ -1,5 +1,6 @@
 pub mod LittleEndian
 pub mod Samplings
 pub mod Blocks
+pub mod Rowing
 pub mod Joining
 pub mod Whole

@@ -13,6 +13,7 @@ use Rattle.value.specs.declared.Kind.the-variants as kind
 use Rattle.value.specs.declared.Value.{Value}
 use Rattle.value.specs.Meaning.{valueOf}
 use Rattle.block.specs.Samples.{bytesOf, countOf, littleEndian, numberFrom, samplesIn, bytesFor}
+use Rattle.block.specs.Steps.{numbersIn}
 use Rattle.block.proofs.LittleEndian.{length-little, sets-append}
 
 -- ---- how many bytes a sample has
@@ -51,6 +52,25 @@ place-inside i n w l h k p q r = rw (p, q, r) (sample-inside i n w l h k)
 
 pub next-place : (i w : ℕ) {at u : ℕ} → at ≡ i * w → u ≡ w → at + u ≡ (i + 1) * w
 next-place i w p q = rw (p, q, add-one i, suc-mul i w) refl
+
+-- the samples are the values of the numbers that their bytes make
+pub samples-numbers : (k : Kind) (n : ℕ) (bytes : List ℕ) → samplesIn k n bytes ≡ map (valueOf k) (numbersIn (bytesOf k) n bytes)
+unfolding samplesIn numbersIn
+samples-numbers k zero bytes = refl
+samples-numbers k (suc n) bytes = ap (λ (l : List Value). valueOf k (numberFrom (take (bytesOf k) bytes)) ∷ l) (samples-numbers k n (drop (bytesOf k) bytes))
+
+pub length-numbers : (w n : ℕ) (bytes : List ℕ) → length (numbersIn w n bytes) ≡ n
+unfolding numbersIn
+length-numbers w zero bytes = refl
+length-numbers w (suc n) bytes = ap suc (length-numbers w n (drop w bytes))
+
+pub number-here : (w n : ℕ) (bytes : List ℕ) (i d : ℕ) → i < n → getD (numbersIn w n bytes) i d ≡ numberFrom (take w (drop (i * w) bytes))
+unfolding numbersIn
+number-here w zero bytes i d h = absurd (not-suc-le-zero h)
+number-here w (suc n) bytes zero d h = rw (zero-mul w) refl
+number-here w (suc n) bytes (suc i) d h =
+    number-here w n (drop w bytes) i d (le-of-suc-le-suc h)
+    ∙ ap (λ (l : List ℕ). numberFrom (take w l)) (drop-drop (i * w) w bytes ∙ ap (λ (m : ℕ). drop m bytes) (add-comm w (i * w) ∙ sym (suc-mul i w)))
 
 pub length-samples : (k : Kind) (n : ℕ) (bytes : List ℕ) → length (samplesIn k n bytes) ≡ n
 unfolding samplesIn
@@ -91,7 +111,7 @@ bytes-one k b = append-nil (littleEndian (bytesOf k) b)
 
 -- ---- samples laid into a buffer: the first i conversions are there
 
-module _ (k : Kind) (f : Value → ℕ) (s : List Value) (old : List ℕ) where
+module _ {A : Type 0} (k : Kind) (f : A → ℕ) (s : List A) (old : List ℕ) where
   abbrev pub Filled : List ℕ → ℕ → Type 0
   Filled now i = (length now ≡ length old) × (now ≡ sets old 0 (bytesFor k (take i (map f s))))
 
@@ -99,7 +119,7 @@ module _ (k : Kind) (f : Value → ℕ) (s : List Value) (old : List ℕ) where
   unfolding bytesFor
   fill-none = (refl, refl)
 
-  module _ (i : ℕ) (d : Value) (h : i < length s) {v : Value} (v-is : getD s i d ≡ v) {b : ℕ} (b-is : b ≡ f v) where
+  module _ (i : ℕ) (d : A) (h : i < length s) {v : A} (v-is : getD s i d ≡ v) {b : ℕ} (b-is : b ≡ f v) where
     abbrev filled : List ℕ
     filled = bytesFor k (take i (map f s))
 

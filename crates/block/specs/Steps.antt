@@ -1,9 +1,14 @@
 -- What the code's own steps compute.
-use Prim.Native.Nat.{ℕ}
+use Prim.Native.Nat.{ℕ, zero, suc}
+use mathlib.Core.List.{List, [], _∷_}
+use lib.ListN.{take, drop}
+use lib.Ieee.{Float, binary32}
 use mathlib.Core.Bool.{Bool, true, false}
 use Rattle.value.specs.declared.Kind.{Kind}
 use Rattle.value.specs.declared.Value.{Value}
+use Rattle.value.specs.Meaning.{floatBits}
 use Rattle.value.specs.Outcome.{Outcome, gives, refuses}
+use Rattle.block.specs.Samples.{numberFrom}
 use Rattle.block.specs.Migrate.{bitsTo}
 
 abbrev pub isRefused : {A : Type 0} → Outcome A → Bool
@@ -25,3 +30,14 @@ refusedTo to v = isRefused (bitsTo to v)
 
 abbrev pub bitsFor : Kind → Value → ℕ
 bitsFor to v = bitsIn (bitsTo to v)
+
+-- ---- a block as a row
+
+-- the numbers of the first n samples of w bytes
+unfoldable pub numbersIn : ℕ → ℕ → List ℕ → List ℕ
+numbersIn w zero bytes = []
+numbersIn w (suc n) bytes = numberFrom (take w bytes) ∷ numbersIn w n (drop w bytes)
+
+-- the bits of a float in a row of f32, which holds no NaN's pattern
+abbrev pub plainBits : Float → ℕ
+plainBits x = floatBits binary32 x 0

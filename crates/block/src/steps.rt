@@ -8,6 +8,8 @@ ghost use Rattle.block.specs.Migrate.{placedFrom, blockAnswer, blockExit
 use crate::Progress;
 use crate::passes::first_refused;
 use crate::passes::write_samples;
+use crate::rows::floated;
+use crate::rows::widened;
 use crate::samples::number_of;
 use crate::samples::sample_at;
 use crate::samples::sample_bytes;
@@ -47,7 +49,26 @@ fn one_by_one(from: Kind, to: Kind, src: &[u8], n: usize, dst: &mut [u8]) -> Row
     Rowed::Done
 }
 
-// The block alone.
+// The pairs that have rows go through the row calls, the others sample by sample.
+fn by_pair(from: Kind, to: Kind, src: &[u8], n: usize, dst: &mut [u8]) -> Rowed
+    requires { ⌜ (n ≡ countOf from (now src)) × (n ≤ length (now dst) / bytesOf to) × (n ≤ 32768) ⌝ }
+    ensures answer { λ r. ⌜ rowedOutcome r ≡ blockAnswer from to (now (src .entry)) (length (now (dst .entry))) ⌝ }
+    ensures exit { λ _. ⌜ now (dst .exit) ≡ blockExit from to (now (src .entry)) (now (dst .entry)) ⌝ }
+{
+    match from {
+        Kind::U8 => match to {
+            Kind::U16 => widened(src, n, dst),
+            _ => one_by_one(from, to, src, n, dst),
+        },
+        Kind::U16 => match to {
+            Kind::F32 => floated(src, n, dst),
+            _ => one_by_one(from, to, src, n, dst),
+        },
+        _ => one_by_one(from, to, src, n, dst),
+    }
+}
+
+// The block alone. The rows have 32768 places.
 fn block(from: Kind, to: Kind, src: &[u8], dst: &mut [u8]) -> Rowed
     ensures answer { λ r. ⌜ rowedOutcome r ≡ blockAnswer from to (now (src .entry)) (length (now (dst .entry))) ⌝ }
     ensures exit { λ _. ⌜ now (dst .exit) ≡ blockExit from to (now (src .entry)) (now (dst .entry)) ⌝ }
@@ -56,7 +77,10 @@ fn block(from: Kind, to: Kind, src: &[u8], dst: &mut [u8]) -> Rowed
     if dst.len() / sample_bytes(to) < n {
         return refused(9, 0);
     }
-    one_by_one(from, to, src, n, dst)
+    if n > 32768 {
+        return one_by_one(from, to, src, n, dst);
+    }
+    by_pair(from, to, src, n, dst)
 }
 
 // A place in the block as a place in the whole.

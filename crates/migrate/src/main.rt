@@ -13,7 +13,7 @@ use value::KindFound;
 fn main() {
     let count = os::arg_count();
     if count != 5 {
-        put_error(b"usage: migrate FROM TO IN OUT, or migrate report FROM IN [TO]");
+        put_error(b"usage: migrate FROM TO IN OUT");
         return;
     }
     let KindFound::Is(from) = kind_in(1) else {

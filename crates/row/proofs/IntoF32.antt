@@ -44,7 +44,7 @@ positive-abs p e b h = simp h
 -- ---- the cast
 
 module _ (n : ℕ) (small : n < 2 ^ 16) where
-  abbrev bits : ℕ
+  abbrev pub bits : ℕ
   bits = toBits binary32 (asF32 n)
 
   cast-fits : T (fits binary32 (asF32 n))
@@ -57,13 +57,13 @@ module _ (n : ℕ) (small : n < 2 ^ 16) where
   cast-pattern : patternOf 23 8 bits ≡ finite false (n * 2 ^ 149)
   cast-pattern = value-pattern binary32 (asF32 n) false (n * 2 ^ 149) cast-fits (over-more (asF32 n) false n (2 ^ 149) cast-value)
 
-  encoded : encodeOf binary32 (n * unit) ≡ bits
+  pub encoded : encodeOf binary32 (n * unit) ≡ bits
   encoded =
       let fields = finite-fields 23 8 bits false (n * 2 ^ 149) cast-pattern in
       let m : magOf 23 bits ≡ n * 2 ^ 149 = ap (magOf 23) (sym (positive-abs 23 8 bits (fields .0))) ∙ fields .1 in
       ap (encodeOf binary32) (sym (ap (λ (k : ℕ). k * stepOf binary32) m ∙ steps-units n)) ∙ encode-held binary32 bits
 
-  same-number : numberOf (valueOf kind.F32 bits) ≡ numberOf (U16 n)
+  pub same-number : numberOf (valueOf kind.F32 bits) ≡ numberOf (U16 n)
   unfolding valueOf
   same-number =
       ap (λ (b : ℕ). float-number.numberOf (times (stepOf binary32) (patternOf 23 8 b))) (value-bits kind.F32 bits (toBits-lt binary32 (asF32 n) cast-fits))

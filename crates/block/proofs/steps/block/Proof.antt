@@ -1,8 +1,9 @@
 -- Without room it is refused; with room its samples decide.
-use mathlib.Core.Path.{_∙_, ap}
-use Prim.Native.Nat.{ℕ, _/_}
+use mathlib.Core.Path.{_≡_, _∙_, ap}
+use Prim.Native.Nat.{ℕ, _/_, _≤_}
 use lib.ListN.{length}
 use Rattle.row.specs.Row.{rowedOutcome}
+use Rattle.block.specs.Samples.{bytesOf, countOf}
 use Rattle.block.proofs.Blocks.{block-short, shorter, enough}
 use borrow.Author.Needs.{needs}
 use Rattle.block.proofs.steps.block.Statement.{statement}
@@ -17,13 +18,22 @@ returns c =
     let r = block-short (a .from) (a .to) (a .src .now) (a .dst .now) (shorter (length (a .dst .now)) (length (a .src .now)) (first .sample-bytes .ensures .0) (second .sample-bytes2 .ensures .0) (then .if1 .taken)) in
     (ap rowedOutcome (c .refused .ensures) ∙ r .0, r .1)
 
-one-by-one-requires : tie.Need-one-by-one-requires
-one-by-one-requires c κs =
-    let passed = c .before in
-    let second = passed .before in
+-- what the samples ask for: their number, and room for them
+asked : (c : tie.Else1)
+    → (let first = c .before .before in
+    let a = first .before .before .before .args in
+    (length (a .src .now) / first .sample-bytes .result ≡ countOf (a .from) (a .src .now)) × (length (a .src .now) / first .sample-bytes .result ≤ length (a .dst .now) / bytesOf (a .to)))
+asked c =
+    let second = c .before in
     let first = second .before in
     let a = first .before .before .before .args in
-    (ap (λ (w : ℕ). length (a .src .now) / w) (first .sample-bytes .ensures .0), enough (length (a .dst .now)) (length (a .src .now) / first .sample-bytes .result) (second .sample-bytes2 .ensures .0) (passed .if1 .left))
+    (ap (λ (w : ℕ). length (a .src .now) / w) (first .sample-bytes .ensures .0), enough (length (a .dst .now)) (length (a .src .now) / first .sample-bytes .result) (second .sample-bytes2 .ensures .0) (c .if1 .left))
+
+one-by-one-requires : tie.Need-one-by-one-requires
+one-by-one-requires c κs = asked (c .before .before)
+
+by-pair-requires : tie.Need-by-pair-requires
+by-pair-requires c κs = let r = asked (c .before .before) in (r .0, r .1, c .before .if2 .left)
 
 pub block-spec : {M : Type 1} → statement M
 block-spec =
@@ -36,5 +46,8 @@ block-spec =
     (λ c κs. search needs)
     returns
     one-by-one-requires
+    (λ c. search needs)
+    (λ c. search needs)
+    by-pair-requires
     (λ c. search needs)
     (λ c. search needs))

@@ -1,0 +1,66 @@
+-- Each arm is told its kinds.
+use mathlib.Core.Path.{_∙_, ap, subst}
+use Prim.Native.Nat.{_/_, _≤_}
+use lib.ListN.{length}
+use Rattle.value.specs.declared.Kind.{Kind}
+use Rattle.block.specs.Samples.{bytesOf, countOf}
+use Rattle.block.proofs.Rowing.{by-kinds}
+use borrow.Author.Needs.{needs}
+use Rattle.block.proofs.steps.by_pair.Statement.{statement}
+use Rattle.block.proofs.steps.by_pair.Tie as tie
+
+widened-requires : tie.Need-widened-requires
+widened-requires c κs =
+    let second = c .before in
+    let first = second .before .before in
+    let s = first .before .before .before .before in
+    let a = s .args in
+    (s .pre .0 ∙ ap (λ (k : Kind). countOf k (a .src .now)) (first .enum-told .given .1), subst (λ (k : Kind). a .n ≤ length (a .dst .now) / bytesOf k) (second .enum-told2 .given .1) (s .pre .1), s .pre .2)
+
+floated-requires : tie.Need-floated-requires
+floated-requires c κs =
+    let second = c .before in
+    let first = second .before .before in
+    let s = first .before .before .before .before in
+    let a = s .args in
+    (s .pre .0 ∙ ap (λ (k : Kind). countOf k (a .src .now)) (first .enum-told3 .given .1), subst (λ (k : Kind). a .n ≤ length (a .dst .now) / bytesOf k) (second .enum-told4 .given .1) (s .pre .1), s .pre .2)
+
+returns : tie.Need-returns
+returns c =
+    let called = c .before .before in
+    let second = called .before .before in
+    let first = second .before .before in
+    let a = first .before .before .before .before .args in
+    by-kinds (a .from) (a .to) (a .src .now) (a .dst .now) (first .enum-told .given .1) (second .enum-told2 .given .1) (called .widened .ensures)
+
+returns-3 : tie.Need-returns-3
+returns-3 c =
+    let called = c .before .before in
+    let second = called .before .before in
+    let first = second .before .before in
+    let a = first .before .before .before .before .args in
+    by-kinds (a .from) (a .to) (a .src .now) (a .dst .now) (first .enum-told3 .given .1) (second .enum-told4 .given .1) (called .floated .ensures)
+
+pub by-pair-spec : {M : Type 1} → statement M
+by-pair-spec =
+    tie.close
+    (tie.spec
+    (λ c. search needs)
+    (λ c. search needs)
+    widened-requires
+    (λ c κs. search needs)
+    (λ c. search needs)
+    (λ c. search needs)
+    floated-requires
+    (λ c κs. search needs)
+    (λ c κs. search needs)
+    (λ c. search needs)
+    returns
+    (λ c. search needs)
+    (λ c. search needs)
+    (λ c. search needs)
+    returns-3
+    (λ c. search needs)
+    (λ c. search needs)
+    (λ c. search needs)
+    (λ c. search needs))
