@@ -4,3 +4,5 @@ pub mod Blocks
 pub mod Rowing
 pub mod Joining
 pub mod Whole
+pub mod Looking
+pub mod Looked

@@ -39,7 +39,7 @@ module _ (from to : Kind) (room : ℕ) where
   Decides r p = (r .samples ≡ countOf from p) × (mapped (λ d. r .output) (r .answer) ≡ migrateOf from to p)
 
   -- no more samples than bytes
-  small : (p : List ℕ) → length p < 2 ^ 64 → countOf from p < 2 ^ 64
+  pub small : (p : List ℕ) → length p < 2 ^ 64 → countOf from p < 2 ^ 64
   small p h = lt-of-le-of-lt (div-le-self (length p) (bytesOf from)) h
 
   module _ (r : Reached) (p b : List ℕ) (st : Stands r p) (short : length (p ++ b) < 2 ^ 64) where
@@ -125,7 +125,7 @@ module _ (from to : Kind) (room : ℕ) where
       subst (Decides (runOf from to room (stepped from to room r b) bs)) e
       (run-decides rest (stepped from to room r b) (p ++ b) (step-stands r p b st (shorter (p ++ b) (joined bs) short) fits ends) short)
 
-  no-samples : samplesOf from [] ≡ []
+  pub no-samples : samplesOf from [] ≡ []
   unfolding samplesIn
   no-samples = ap (λ (n : ℕ). samplesIn from n []) (zero-div (bytesOf from))
 

@@ -1,4 +1,6 @@
 pub mod Samples
 pub mod Migrate
 pub mod Steps
+pub mod Report
 pub mod Theorem
+pub mod ReportTheorem

@@ -2,18 +2,39 @@
 // a file. A block goes on from the samples before it, so that the answers of all blocks are the answer of the whole input (docs/RULES.md: Migration).
 mod bytes;
 mod layouts;
+mod looks;
 mod passes;
 mod rows;
 mod samples;
 mod steps;
 
+pub use looks::look_block;
+pub use looks::nothing_seen;
 use row::Rowed;
 pub use samples::sample_bytes;
 pub use steps::convert_block;
 pub use steps::start;
+use value::Value;
 
 // How many samples came before, and what they were answered.
 pub struct Progress {
     pub samples: usize,
+    pub answer: Rowed,
+}
+
+// A sample, if there is one.
+pub enum Found {
+    Is(Value),
+    Nothing,
+}
+
+// What was seen of samples: how many there were, how many of them are NaN, the lowest and the highest, how many a conversion would refuse,
+// and what it would answer.
+pub struct Seen {
+    pub samples: usize,
+    pub nans: usize,
+    pub lowest: Found,
+    pub highest: Found,
+    pub refusable: usize,
     pub answer: Rowed,
 }

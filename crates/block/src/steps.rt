@@ -28,7 +28,7 @@ pub fn start() -> Progress
     }
 }
 
-fn refused(number: u8, place: usize) -> Rowed
+pub(crate) fn refused(number: u8, place: usize) -> Rowed
     ensures { λ r. ⌜ r ≡ Rowed.Refused (record { number = number; place = place }) ⌝ }
 {
     Rowed::Refused(Refusal { number, place })
