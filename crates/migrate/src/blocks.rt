@@ -57,7 +57,8 @@ pub(crate) fn run(
     };
     while r.turns > 0 {
         r = step(input, output, from, to, src, dst, r);
-        put_progress(r);
+        let progress = r.progress;
+        put_progress(progress.samples, r.turns);
     }
     r
 }
@@ -94,7 +95,7 @@ fn step(
 }
 
 // A block that isn't full is the last one, and so is one that couldn't be written.
-fn turns_left(turns: u64, full: bool, fault: Fault) -> u64
+pub(crate) fn turns_left(turns: u64, full: bool, fault: Fault) -> u64
     requires { ⌜ 0 < turns ⌝ }
     ensures { λ r. ⌜ r < turns ⌝ }
 {
@@ -166,11 +167,10 @@ fn write_block(
 }
 
 // A line on standard error for every 2^27 samples, so that a long run is seen to go on.
-fn put_progress(r: State) {
-    let progress = r.progress;
-    if (r.turns > 0) & (r.turns % 4096 == 0) {
+pub(crate) fn put_progress(samples: usize, turns: u64) {
+    if (turns > 0) & (turns % 4096 == 0) {
         io::write_all(libc::STDERR_FILENO, b"samples so far: ");
-        io::print_decimal(libc::STDERR_FILENO, progress.samples as u64);
+        io::print_decimal(libc::STDERR_FILENO, samples as u64);
         io::write_all(libc::STDERR_FILENO, b"\n");
     }
 }

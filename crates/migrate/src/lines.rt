@@ -1,9 +1,73 @@
 // The lines of an answer, on standard output.
+use block::Found;
 use libc::STDOUT_FILENO;
+use std::num::wrapping_add_u64;
+use std::num::wrapping_sub_u64;
+use text::KIND_NAMES;
+use value::Kind;
+use value::Value;
+use value::bits_of;
+use value::kind_of;
 
 pub(crate) fn put_number(name: &[u8], n: u64) {
     io::write_all(STDOUT_FILENO, name);
     io::print_decimal(STDOUT_FILENO, n);
+    io::write_all(STDOUT_FILENO, b"\n");
+}
+
+// A sample, or `-` where there is none.
+pub(crate) fn put_found(name: &[u8], f: Found) {
+    io::write_all(STDOUT_FILENO, name);
+    match f {
+        Found::Is(v) => put_value(v),
+        Found::Nothing => put_text(b"-"),
+    }
+    io::write_all(STDOUT_FILENO, b"\n");
+}
+
+// An integer in decimal, a float by its bits.
+fn put_value(v: Value) {
+    let bits = bits_of(v);
+    match kind_of(v) {
+        Kind::I8 => put_signed(bits, 0x80),
+        Kind::I16 => put_signed(bits, 0x8000),
+        Kind::I32 => put_signed(bits, 0x8000_0000),
+        Kind::I64 => put_signed(bits, 0x8000_0000_0000_0000),
+        Kind::F32 => put_bits(b"f32:", bits, 8),
+        Kind::F64 => put_bits(b"f64:", bits, 16),
+        _ => put_decimal(bits),
+    }
+}
+
+fn put_text(s: &[u8]) {
+    io::write_all(STDOUT_FILENO, s);
+}
+
+fn put_decimal(n: u64) {
+    io::print_decimal(STDOUT_FILENO, n);
+}
+
+// Two's complement: patterns from half on are negative, and what they lack to twice half is the magnitude. Twice 2^63 is 0 here.
+fn put_signed(bits: u64, half: u64) {
+    if bits < half {
+        put_decimal(bits);
+    } else {
+        put_text(b"-");
+        put_decimal(wrapping_sub_u64(wrapping_add_u64(half, half), bits));
+    }
+}
+
+fn put_bits(name: &[u8], bits: u64, digits: usize) {
+    io::write_all(STDOUT_FILENO, name);
+    io::print_hex(STDOUT_FILENO, bits, digits);
+}
+
+// An argument that names no kind.
+pub(crate) fn put_no_kind(name: &[u8]) {
+    io::write_all(STDOUT_FILENO, b"error=");
+    io::write_all(STDOUT_FILENO, name);
+    io::write_all(STDOUT_FILENO, b" is no kind: ");
+    io::write_all(STDOUT_FILENO, &KIND_NAMES);
     io::write_all(STDOUT_FILENO, b"\n");
 }
 

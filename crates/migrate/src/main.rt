@@ -1,30 +1,71 @@
-// Moves a file of samples from one kind to another, exactly or not at all: `migrate FROM TO IN OUT`. The answer is lines on standard
-// output (docs/RULES.md: Migration). What converts a block is block::convert_block; here are only files, arguments and lines.
+// Moves a file of samples from one kind to another, exactly or not at all: `migrate FROM TO IN OUT`; or looks at it before: `migrate report
+// FROM IN [TO]`. The answer is lines on standard output (docs/RULES.md: Migration, Report). What converts a block is block::convert_block, and
+// what looks at one block::look_block; here are only files, arguments and lines.
 mod blocks;
 mod files;
 mod lines;
 mod moves;
+mod reports;
 
 use lines::put_error;
+use lines::put_no_kind;
 use moves::migrate;
+use reports::report;
 use text::kind_named;
+use text::word_number;
 use value::KindFound;
 
 fn main() {
     let count = os::arg_count();
-    if count != 5 {
-        put_error(b"usage: migrate FROM TO IN OUT");
-        return;
+    let asked = is_report();
+    if asked & (count == 4) {
+        report_alone();
+    } else if asked & (count == 5) {
+        report_to();
+    } else if count == 5 {
+        move_file();
+    } else {
+        put_error(b"usage: migrate FROM TO IN OUT, or migrate report FROM IN [TO]");
     }
+}
+
+// Whether the first argument says so; it names no kind.
+fn is_report() -> bool {
+    let mut name = [0u8; 8];
+    let n = os::arg(1, &mut name);
+    word_number(&name[..n], b"report") == 0
+}
+
+fn move_file() {
     let KindFound::Is(from) = kind_in(1) else {
-        put_error(b"FROM is no kind: u8 u16 u32 u64 i8 i16 i32 i64 f32 f64");
+        put_no_kind(b"FROM");
         return;
     };
     let KindFound::Is(to) = kind_in(2) else {
-        put_error(b"TO is no kind: u8 u16 u32 u64 i8 i16 i32 i64 f32 f64");
+        put_no_kind(b"TO");
         return;
     };
     migrate(from, to, 3, 4);
+}
+
+fn report_alone() {
+    let KindFound::Is(from) = kind_in(2) else {
+        put_no_kind(b"FROM");
+        return;
+    };
+    report(from, from, false, 3);
+}
+
+fn report_to() {
+    let KindFound::Is(from) = kind_in(2) else {
+        put_no_kind(b"FROM");
+        return;
+    };
+    let KindFound::Is(to) = kind_in(4) else {
+        put_no_kind(b"TO");
+        return;
+    };
+    report(from, to, true, 3);
 }
 
 // The kind that an argument names; an argument that is longer than any name is none.
