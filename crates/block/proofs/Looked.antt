@@ -1,14 +1,15 @@
--- Looking at the blocks is looking at the whole: a fold over joined lists. Below 2^64 its count is the number of samples, and its answer the
--- row's: the first sample that is refused decides.
+-- Looking at the blocks is looking at the whole: a fold over joined lists. Below 2^64 its counts are those of the samples, and its answer is
+-- the row's: the first sample that is refused decides.
 use mathlib.Core.Path.{_≡_, refl, sym, _∙_, ap}
-use mathlib.Core.Bool.{Bool, not}
+use mathlib.Core.Bool.{Bool, true, false, not, cond}
 use mathlib.Core.Logic.{inl, inr}
 use mathlib.Core.List.{List, [], _∷_, _++_, append-nil}
-use Prim.Native.Nat.{ℕ, suc, _+_, _^_, _<_}
+use Prim.Native.Nat.{ℕ, suc, _+_, _^_, _≤_, _<_}
 use native.Mathlib.Nat.{add-zero, zero-add, zero-mod, mod-eq-of-lt}
 use native.Mathlib.Numerals.{add-one}
 use native.Mathlib.Omega.{arith}
 use borrow.Author.Tests.{eq-eqb, ne-eqb}
+use lib.Dec.{lit≤}
 use lib.ListN.{length}
 use Rattle.float.proofs.Naturals.{lt-or-ge}
 use Rattle.value.specs.declared.Kind.{Kind}
@@ -20,9 +21,10 @@ use Rattle.row.specs.Row.{rowedOutcome, rowAnswer, sampleThen}
 use Rattle.block.specs.declared.Seen.{Seen}
 use Rattle.block.specs.Samples.{bytesOf, countOf, leftOf, samplesOf}
 use Rattle.block.specs.Migrate.{bitsTo, answerOf, counted}
-use Rattle.block.specs.Report.{firstOf, notedOf, nothingSeen, allNoted, leftNoted, lookOf}
+use Rattle.block.specs.Steps.{refusedTo}
+use Rattle.block.specs.Report.{isNan, countIf, firstOf, notedOf, nothingSeen, allNoted, leftNoted, lookOf}
 use Rattle.block.specs.Theorem.{joined}
-use Rattle.block.specs.ReportTheorem.{Parts, none, last, more, lookedAt, LooksDecide}
+use Rattle.block.specs.ReportTheorem.{Parts, none, last, more, lookedAt, howMany, Tells, LooksDecide}
 use Rattle.block.proofs.Samplings.{length-samples}
 use Rattle.block.proofs.Joining.{left-joined, samples-of-joined}
 use Rattle.block.proofs.Whole.{small, no-samples}
@@ -56,30 +58,63 @@ stays : (o : Outcome Success) → o ≡ andThen o (λ d. gives done)
 stays (gives done) = refl
 stays (refuses m p) = refl
 
+count-step : (t : Bool) (n k : ℕ) → suc n < 2 ^ 64 → countIf t n + k ≡ n + cond t (suc k) k
+count-step true n k h = ap (λ (m : ℕ). counted m + k) (add-one n) ∙ ap (λ (m : ℕ). m + k) (mod-eq-of-lt h) ∙ omega arith
+count-step false n k h = refl
+
+count-bound : (t : Bool) (n : ℕ) → suc n < 2 ^ 64 → countIf t n ≤ suc n
+count-bound t n h = let q = count-step t n 0 h in let b = one-more t in omega (arith, q, b)
+  where
+    one-more : (t : Bool) → cond t 1 0 ≤ 1
+    one-more true = lit≤ tt
+    one-more false = lit≤ tt
+
+-- a count of the samples that pass a test
+module _ (to : Kind) (count : Seen → ℕ) (test : Value → Bool) (step : (s : Seen) (v : Value) → count (notedOf to s v) ≡ countIf (test v) (count s)) where
+  all-counted : (s : Seen) (vs : List Value) → count s + length vs < 2 ^ 64 → count (allNoted to s vs) ≡ count s + howMany test vs
+  unfolding allNoted howMany
+  all-counted s [] h = sym (add-zero (count s))
+  all-counted s (v ∷ vs) h =
+      let one = step s v in
+      let bound = count-bound (test v) (count s) (omega arith) in
+      all-counted (notedOf to s v) vs (omega (arith, one, bound))
+      ∙ ap (λ (n : ℕ). n + howMany test vs) one
+      ∙ count-step (test v) (count s) (howMany test vs) (omega arith)
+
+all-many : {A : Type 0} (xs : List A) → howMany (λ x. true) xs ≡ length xs
+unfolding howMany
+all-many [] = refl
+all-many (x ∷ xs) = ap suc (all-many xs)
+
+module _ (to : Kind) (s : Seen) (v : Value) where
+  noted-samples : notedOf to s v .samples ≡ countIf true (s .samples)
+  unfolding notedOf
+  noted-samples = refl
+
+  noted-nans : notedOf to s v .nans ≡ countIf (isNan v) (s .nans)
+  unfolding notedOf
+  noted-nans = refl
+
+  noted-refusable : notedOf to s v .refusable ≡ countIf (refusedTo to v) (s .refusable)
+  unfolding notedOf
+  noted-refusable = refl
+
+  noted-answer : notedOf to s v .answer ≡ firstOf (s .answer) (s .samples) (bitsTo to v)
+  unfolding notedOf
+  noted-answer = refl
+
+  next-sample : suc (s .samples) < 2 ^ 64 → notedOf to s v .samples ≡ suc (s .samples)
+  next-sample h = noted-samples ∙ ap counted (add-one (s .samples)) ∙ mod-eq-of-lt h
+
 module _ (to : Kind) where
-  noted-samples : (s : Seen) (v : Value) → suc (s .samples) < 2 ^ 64 → notedOf to s v .samples ≡ suc (s .samples)
-  unfolding notedOf
-  noted-samples s v h = ap counted (add-one (s .samples)) ∙ mod-eq-of-lt h
-
-  noted-answer : (s : Seen) (v : Value) → notedOf to s v .answer ≡ firstOf (s .answer) (s .samples) (bitsTo to v)
-  unfolding notedOf
-  noted-answer s v = refl
-
-  all-samples : (s : Seen) (vs : List Value) → s .samples + length vs < 2 ^ 64 → allNoted to s vs .samples ≡ s .samples + length vs
-  unfolding allNoted
-  all-samples s [] h = sym (add-zero (s .samples))
-  all-samples s (v ∷ vs) h =
-      let one = noted-samples s v (omega arith) in
-      all-samples (notedOf to s v) vs (omega (arith, one)) ∙ omega (arith, one)
-
   all-answer : (s : Seen) (vs : List Value) → s .samples + length vs < 2 ^ 64 → rowedOutcome (allNoted to s vs .answer) ≡ andThen (rowedOutcome (s .answer)) (λ d. rowAnswer (bitsTo to) (s .samples) vs)
   unfolding allNoted rowAnswer
   all-answer s [] h = stays (rowedOutcome (s .answer))
   all-answer s (v ∷ vs) h =
-      let one = noted-samples s v (omega arith) in
+      let one = next-sample to s v (omega arith) in
       let rest = rowAnswer (bitsTo to) (suc (s .samples)) vs in
       all-answer (notedOf to s v) vs (omega (arith, one))
-      ∙ ap (λ (a : Rowed). andThen (rowedOutcome a) (λ d. rowAnswer (bitsTo to) (notedOf to s v .samples) vs)) (noted-answer s v)
+      ∙ ap (λ (a : Rowed). andThen (rowedOutcome a) (λ d. rowAnswer (bitsTo to) (notedOf to s v .samples) vs)) (noted-answer to s v)
       ∙ ap (λ (n : ℕ). andThen (rowedOutcome (firstOf (s .answer) (s .samples) (bitsTo to v))) (λ d. rowAnswer (bitsTo to) n vs)) one
       ∙ first-then (s .answer) (s .samples) (bitsTo to v) rest
 
@@ -92,33 +127,47 @@ module _ (from to : Kind) (p : List ℕ) (short : length p < 2 ^ 64) where
   abbrev all : Seen
   all = allNoted to nothingSeen (samplesOf from p)
 
-  whole-count : all .samples ≡ countOf from p
-  whole-count = all-samples to nothingSeen (samplesOf from p) few ∙ zero-add (length (samplesOf from p)) ∙ length-samples from (countOf from p) p
+  -- what the counts are of all samples
+  counted-all : (count : Seen → ℕ) (test : Value → Bool) → ((s : Seen) (v : Value) → count (notedOf to s v) ≡ countIf (test v) (count s)) → count nothingSeen ≡ 0 → count all ≡ howMany test (samplesOf from p)
+  counted-all count test step begun =
+      all-counted to count test step nothingSeen (samplesOf from p) (rw begun few)
+      ∙ ap (λ (n : ℕ). n + howMany test (samplesOf from p)) begun
+      ∙ zero-add (howMany test (samplesOf from p))
 
-  abbrev Says : Seen → Type 0
-  Says s = (s .samples ≡ countOf from p) × (rowedOutcome (s .answer) ≡ answerOf from to p)
+  many : all .samples ≡ countOf from p
+  many = counted-all (λ (s : Seen). s .samples) (λ v. true) (noted-samples to) refl ∙ all-many (samplesOf from p) ∙ length-samples from (countOf from p) p
 
-  whole-says : leftOf from p ≡ 0 → Says all
+  nans : all .nans ≡ howMany isNan (samplesOf from p)
+  nans = counted-all (λ (s : Seen). s .nans) isNan (noted-nans to) refl
+
+  refusable : all .refusable ≡ howMany (refusedTo to) (samplesOf from p)
+  refusable = counted-all (λ (s : Seen). s .refusable) (refusedTo to) (noted-refusable to) refl
+
+  whole-tells : leftOf from p ≡ 0 → Tells from to p all
   unfolding answerOf
-  whole-says ends = (
-    whole-count,
+  whole-tells ends = (
+    many,
+    nans,
+    refusable,
     all-answer to nothingSeen (samplesOf from p) few
         ∙ sym (ap (λ (t : Bool). refuseIf (not t) 9 (countOf from p) (rowAnswer (bitsTo to) 0 (samplesOf from p))) (eq-eqb (leftOf from p) 0 ends)),
   )
 
-  left-says : (leftOf from p ≡ 0 → ⊥) → Says (leftNoted all)
+  left-tells : (leftOf from p ≡ 0 → ⊥) → Tells from to p (leftNoted all)
   unfolding answerOf
-  left-says some = (
-    whole-count,
-    ap (refuses 9) whole-count
+  left-tells some = (
+    many,
+    nans,
+    refusable,
+    ap (refuses 9) many
         ∙ sym (ap (λ (t : Bool). refuseIf (not t) 9 (countOf from p) (rowAnswer (bitsTo to) 0 (samplesOf from p))) (ne-eqb (leftOf from p) 0 some)),
   )
 
-  look-says : Says (lookOf from to nothingSeen p)
-  look-says = elim (lt-or-ge 0 (leftOf from p)) [
-    | inl h ↦ rw (← look-left from to nothingSeen p (λ q. omega arith)) (left-says (λ q. omega arith))
-    | inr h ↦ rw (← look-whole from to nothingSeen p (omega arith)) (whole-says (omega arith))
+  look-tells : Tells from to p (lookOf from to nothingSeen p)
+  look-tells = elim (lt-or-ge 0 (leftOf from p)) [
+    | inl h ↦ rw (← look-left from to nothingSeen p (λ q. omega arith)) (left-tells (λ q. omega arith))
+    | inr h ↦ rw (← look-whole from to nothingSeen p (omega arith)) (whole-tells (omega arith))
   ]
 
 pub looks-decide : LooksDecide
-looks-decide from to bs parts short = let s = look-says from to (joined bs) short in (looked from to parts nothingSeen, s .0, s .1)
+looks-decide from to bs parts short = (looked from to parts nothingSeen, look-tells from to (joined bs) short)

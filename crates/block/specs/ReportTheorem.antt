@@ -1,14 +1,16 @@
 -- What the theorem on reports speaks of: an input that is looked at as blocks. RULES.md: Report.
-use Prim.Native.Nat.{ℕ, _^_, _<_}
+use Prim.Native.Nat.{ℕ, suc, _^_, _<_}
+use mathlib.Core.Bool.{Bool, cond}
 use mathlib.Core.Path.{_≡_}
 use mathlib.Core.List.{List, [], _∷_}
 use lib.ListN.{length}
 use Rattle.value.specs.declared.Kind.{Kind}
 use Rattle.row.specs.Row.{rowedOutcome}
 use Rattle.block.specs.declared.Seen.{Seen}
-use Rattle.block.specs.Samples.{countOf, leftOf}
+use Rattle.block.specs.Samples.{countOf, leftOf, samplesOf}
 use Rattle.block.specs.Migrate.{answerOf}
-use Rattle.block.specs.Report.{nothingSeen, lookOf}
+use Rattle.block.specs.Steps.{refusedTo}
+use Rattle.block.specs.Report.{isNan, nothingSeen, lookOf}
 use Rattle.block.specs.Theorem.{joined}
 
 -- every block but the last has whole samples only
@@ -22,10 +24,22 @@ abbrev pub lookedAt : Kind → Kind → Seen → List (List ℕ) → Seen
 lookedAt from to s [] = s
 lookedAt from to s (b ∷ bs) = lookedAt from to (lookOf from to s b) bs
 
--- looking at the blocks is looking at the whole; it counts every sample, and says of the migration what the migration answers
+-- how many pass a test
+unfoldable pub howMany : {A : Type 0} → (A → Bool) → List A → ℕ
+howMany test [] = 0
+howMany test (x ∷ xs) = cond (test x) (suc (howMany test xs)) (howMany test xs)
+
+-- what is told of a whole input: its counts, and the answer of its migration
+abbrev pub Tells : Kind → Kind → List ℕ → Seen → Type 0
+Tells from to bytes s =
+    (s .samples ≡ countOf from bytes)
+    × (s .nans ≡ howMany isNan (samplesOf from bytes))
+    × (s .refusable ≡ howMany (refusedTo to) (samplesOf from bytes))
+    × (rowedOutcome (s .answer) ≡ answerOf from to bytes)
+
+-- looking at the blocks is looking at the whole, which tells this
 abbrev pub LooksDecide : Type 0
 LooksDecide =
     (from to : Kind) (bs : List (List ℕ)) → Parts from bs → length (joined bs) < 2 ^ 64
     → (lookedAt from to nothingSeen bs ≡ lookOf from to nothingSeen (joined bs))
-    × (lookOf from to nothingSeen (joined bs) .samples ≡ countOf from (joined bs))
-    × (rowedOutcome (lookOf from to nothingSeen (joined bs) .answer) ≡ answerOf from to (joined bs))
+    × Tells from to (joined bs) (lookOf from to nothingSeen (joined bs))
