@@ -1,5 +1,6 @@
 pub mod LittleEndian
 pub mod Samplings
+pub mod Pieces
 pub mod Blocks
 pub mod Rowing
 pub mod Joining

@@ -14,6 +14,12 @@ unfolding littleEndian
 length-little zero n = refl
 length-little (suc w) n = ap suc (length-little w (n / 256))
 
+pub number-below : (w : ℕ) (bytes : List ℕ) → ((i : ℕ) → getD bytes i 0 < 256) → numberFrom (take w bytes) < 256 ^ w
+unfolding numberFrom
+number-below zero bytes h = omega arith
+number-below (suc w) [] h = rw (pow-suc 256 w) (let k = number-below w [] h in omega arith)
+number-below (suc w) (x ∷ bytes) h = rw (pow-suc 256 w) (let k = number-below w bytes (λ i. h (suc i)) in let l = h 0 in omega (arith, k, l))
+
 -- ---- reading: the bytes from `left` on make n
 
 module _ (src : List ℕ) (from width : ℕ) where

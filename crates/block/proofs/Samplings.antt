@@ -2,12 +2,12 @@
 use mathlib.Core.Path.{_≡_, refl, sym, _∙_, ap, subst}
 use mathlib.Core.List.{List, [], _∷_, _++_, map, append-assoc, append-nil}
 use Prim.Native.Nat.{ℕ, zero, suc, _+_, _*_, _/_, _≤_, _<_}
-use native.Mathlib.Nat.{div-mul-le-self, le-div-iff-mul-le, zero-mul, suc-mul, add-comm, le-trans, mul-le-mul-right, le-of-suc-le-suc, not-suc-le-zero, zero-add}
+use native.Mathlib.Nat.{div-mul-le-self, le-div-iff-mul-le, zero-mul, mul-zero, suc-mul, mul-suc, add-comm, le-trans, mul-le-mul-right, le-of-suc-le-suc, not-suc-le-zero}
 use native.Mathlib.Numerals.{add-one}
 use native.Mathlib.Omega.{arith}
 use lib.Dec.{lit≤, lit<}
-use lib.ListN.{length, take, drop, getD, length-append, length-map, List·getD-map}
-use lib.Seq.{sets, length-take-le, length-sets, take-suc, take-all, drop-drop}
+use lib.ListN.{length, take, drop, getD, length-append, length-map}
+use lib.Seq.{sets, length-take-le, length-sets, take-add, take-all, drop-cons, drop-drop}
 use Rattle.value.specs.declared.Kind.{Kind}
 use Rattle.value.specs.declared.Kind.the-variants as kind
 use Rattle.value.specs.declared.Value.{Value}
@@ -72,6 +72,22 @@ number-here w (suc n) bytes (suc i) d h =
     number-here w n (drop w bytes) i d (le-of-suc-le-suc h)
     ∙ ap (λ (l : List ℕ). numberFrom (take w l)) (drop-drop (i * w) w bytes ∙ ap (λ (m : ℕ). drop m bytes) (add-comm w (i * w) ∙ sym (suc-mul i w)))
 
+numbers-take : (w n j : ℕ) (bytes : List ℕ) → j ≤ n → take j (numbersIn w n bytes) ≡ numbersIn w j bytes
+unfolding numbersIn
+numbers-take w n zero bytes h = refl
+numbers-take w zero (suc j) bytes h = absurd (not-suc-le-zero h)
+numbers-take w (suc n) (suc j) bytes h = ap (λ (l : List ℕ). numberFrom (take w bytes) ∷ l) (numbers-take w n j (drop w bytes) (le-of-suc-le-suc h))
+
+-- some of the numbers, from their bytes
+pub numbers-piece : (w n i j : ℕ) (bytes : List ℕ) → i + j ≤ n → numbersIn w j (drop (w * i) bytes) ≡ take j (drop i (numbersIn w n bytes))
+unfolding numbersIn
+numbers-piece w n zero j bytes h = rw (mul-zero w) (sym (numbers-take w n j bytes (omega arith)))
+numbers-piece w zero (suc i) j bytes h = absurd (omega arith)
+numbers-piece w (suc n) (suc i) j bytes h =
+    ap (λ (m : ℕ). numbersIn w j (drop m bytes)) (mul-suc w i ∙ add-comm (w * i) w)
+    ∙ ap (numbersIn w j) (sym (drop-drop (w * i) w bytes))
+    ∙ numbers-piece w n i j (drop w bytes) (omega arith)
+
 pub length-samples : (k : Kind) (n : ℕ) (bytes : List ℕ) → length (samplesIn k n bytes) ≡ n
 unfolding samplesIn
 length-samples k zero bytes = refl
@@ -109,37 +125,52 @@ bytes-one : (k : Kind) (b : ℕ) → bytesFor k (b ∷ []) ≡ littleEndian (byt
 unfolding bytesFor
 bytes-one k b = append-nil (littleEndian (bytesOf k) b)
 
--- ---- samples laid into a buffer: the first i conversions are there
+-- ---- a piece of a list
 
-module _ {A : Type 0} (k : Kind) (f : A → ℕ) (s : List A) (old : List ℕ) where
+module _ {A : Type 0} (f : A → ℕ) where
+  map-drop : (i : ℕ) (l : List A) → map f (drop i l) ≡ drop i (map f l)
+  map-drop zero l = refl
+  map-drop (suc i) [] = refl
+  map-drop (suc i) (x ∷ l) = map-drop i l
+
+  map-take : (j : ℕ) (l : List A) → map f (take j l) ≡ take j (map f l)
+  map-take zero l = refl
+  map-take (suc j) [] = refl
+  map-take (suc j) (x ∷ l) = ap (λ (m : List ℕ). f x ∷ m) (map-take j l)
+
+  map-piece : (i j : ℕ) (l : List A) → map f (take j (drop i l)) ≡ take j (drop i (map f l))
+  map-piece i j l = map-take j (drop i l) ∙ ap (take j) (map-drop i l)
+
+-- ---- samples laid into a buffer from a place on: the first i conversions are there
+
+module _ {A : Type 0} (k : Kind) (f : A → ℕ) (s : List A) (old : List ℕ) (from : ℕ) where
   abbrev pub Filled : List ℕ → ℕ → Type 0
-  Filled now i = (length now ≡ length old) × (now ≡ sets old 0 (bytesFor k (take i (map f s))))
+  Filled now i = (length now ≡ length old) × (now ≡ sets old from (bytesFor k (take i (map f s))))
 
   pub fill-none : Filled old 0
   unfolding bytesFor
   fill-none = (refl, refl)
 
-  module _ (i : ℕ) (d : A) (h : i < length s) {v : A} (v-is : getD s i d ≡ v) {b : ℕ} (b-is : b ≡ f v) where
-    abbrev filled : List ℕ
-    filled = bytesFor k (take i (map f s))
+  -- and some more
+  pub fill-piece : (i j : ℕ) → i ≤ length s → (now : List ℕ) (place : ℕ) → place ≡ from + i * bytesOf k → Filled now i
+      → {new : List ℕ} → new ≡ sets now place (bytesFor k (map f (take j (drop i s)))) → Filled new (i + j)
+  fill-piece i j h now place p g e =
+      let filled = bytesFor k (take i (map f s)) in
+      let piece = bytesFor k (map f (take j (drop i s))) in
+      let size : length filled ≡ i * bytesOf k = length-bytes k (take i (map f s)) ∙ ap (λ (m : ℕ). m * bytesOf k) (length-take-le i (map f s) (rw (length-map s f) h)) in
+      let here : place ≡ from + length filled = p ∙ ap (λ (m : ℕ). from + m) (sym size) in
+      let whole : filled ++ piece ≡ bytesFor k (take (i + j) (map f s)) =
+      sym (ap (bytesFor k) (take-add i j (map f s)) ∙ bytes-append k (take i (map f s)) (take j (drop i (map f s))) ∙ ap (λ (l : List ℕ). filled ++ bytesFor k l) (sym (map-piece f i j s))) in (
+        ap length e ∙ length-sets now place piece ∙ g .0,
+        e ∙ rw (g .1, here) refl ∙ sets-append filled piece old from ∙ ap (sets old from) whole,
+      )
 
-    fill-more : bytesFor k (take (i + 1) (map f s)) ≡ filled ++ littleEndian (bytesOf k) b
-    fill-more =
-        ap (λ (m : ℕ). bytesFor k (take m (map f s))) (add-one i)
-        ∙ ap (bytesFor k) (take-suc (map f s) i (f d) (rw (length-map s f) h))
-        ∙ bytes-append k (take i (map f s)) (getD (map f s) i (f d) ∷ [])
-        ∙ ap (λ (l : List ℕ). filled ++ l) (bytes-one k (getD (map f s) i (f d)) ∙ ap (littleEndian (bytesOf k)) (List·getD-map f s i d ∙ ap f v-is ∙ sym b-is))
+  pub fill-step : (i : ℕ) (d : A) → i < length s → {v : A} → getD s i d ≡ v → {b : ℕ} → b ≡ f v → (now : List ℕ) (place u : ℕ) → place ≡ from + i * bytesOf k → u ≡ bytesOf k → Filled now i
+      → {new : List ℕ} → new ≡ sets now place (littleEndian u b) → Filled new (i + 1)
+  fill-step i d h v-is {b} b-is now place u p q g e =
+      let one : take 1 (drop i s) ≡ getD s i d ∷ [] = ap (take 1) (drop-cons s i d h) in
+      let laid : littleEndian u b ≡ bytesFor k (map f (take 1 (drop i s))) = ap (λ (w : ℕ). littleEndian w b) q ∙ ap (littleEndian (bytesOf k)) (b-is ∙ ap f (sym v-is)) ∙ sym (bytes-one k (f (getD s i d))) ∙ ap (λ (l : List A). bytesFor k (map f l)) (sym one) in
+      fill-piece i 1 (omega arith) now place p g (e ∙ ap (sets now place) laid)
 
-    filled-length : length filled ≡ i * bytesOf k
-    filled-length = length-bytes k (take i (map f s)) ∙ ap (λ (m : ℕ). m * bytesOf k) (length-take-le i (map f s) (rw (length-map s f) (omega arith)))
-
-    pub fill-step : (now : List ℕ) (place u : ℕ) → place ≡ i * bytesOf k → u ≡ bytesOf k → Filled now i → {new : List ℕ} → new ≡ sets now place (littleEndian u b) → Filled new (i + 1)
-    fill-step now place u p q g e =
-        let here : place ≡ 0 + length filled = p ∙ sym (zero-add (length filled) ∙ filled-length) in
-        let own : sets now place (littleEndian u b) ≡ sets (sets old 0 filled) (0 + length filled) (littleEndian (bytesOf k) b) = rw (g .1, here, q) refl in (
-          ap length e ∙ length-sets now place (littleEndian u b) ∙ g .0,
-          e ∙ own ∙ sets-append filled (littleEndian (bytesOf k) b) old 0 ∙ ap (sets old 0) (sym fill-more),
-        )
-
-  pub fill-end : (now : List ℕ) (i : ℕ) → length s ≤ i → Filled now i → now ≡ sets old 0 (bytesFor k (map f s))
-  fill-end now i h g = g .1 ∙ ap (λ (l : List ℕ). sets old 0 (bytesFor k l)) (take-all i (map f s) (rw (length-map s f) h))
+  pub fill-end : (now : List ℕ) (i : ℕ) → length s ≤ i → Filled now i → now ≡ sets old from (bytesFor k (map f s))
+  fill-end now i h g = g .1 ∙ ap (λ (l : List ℕ). sets old from (bytesFor k l)) (take-all i (map f s) (rw (length-map s f) h))

@@ -8,6 +8,7 @@ use Rattle.value.specs.declared.Kind.{Kind}
 use Rattle.value.specs.declared.Value.{Value}
 use Rattle.value.specs.Meaning.{floatBits}
 use Rattle.value.specs.Outcome.{Outcome, gives, refuses}
+use Rattle.row.specs.Convert.{asF32}
 use Rattle.block.specs.Samples.{numberFrom}
 use Rattle.block.specs.Migrate.{bitsTo}
 
@@ -41,3 +42,7 @@ numbersIn w (suc n) bytes = numberFrom (take w bytes) ∷ numbersIn w n (drop w 
 -- the bits of a float in a row of f32, which holds no NaN's pattern
 abbrev pub plainBits : Float → ℕ
 plainBits x = floatBits binary32 x 0
+
+-- the bits of the f32 that a u16 is cast to
+abbrev pub floatedBits : ℕ → ℕ
+floatedBits n = plainBits (asF32 n)

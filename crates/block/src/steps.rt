@@ -9,6 +9,8 @@ use crate::Progress;
 use crate::passes::first_refused;
 use crate::passes::write_samples;
 use crate::rows::floated;
+use crate::rows::made_whole;
+use crate::rows::narrowed;
 use crate::rows::widened;
 use crate::samples::number_of;
 use crate::samples::sample_at;
@@ -57,11 +59,16 @@ fn by_pair(from: Kind, to: Kind, src: &[u8], n: usize, dst: &mut [u8]) -> Rowed
 {
     match from {
         Kind::U8 => match to {
-            Kind::U16 => widened(src, n, dst),
+            Kind::U16 => widened(src, dst),
             _ => one_by_one(from, to, src, n, dst),
         },
         Kind::U16 => match to {
+            Kind::U8 => narrowed(src, n, dst),
             Kind::F32 => floated(src, n, dst),
+            _ => one_by_one(from, to, src, n, dst),
+        },
+        Kind::F32 => match to {
+            Kind::U16 => made_whole(src, n, dst),
             _ => one_by_one(from, to, src, n, dst),
         },
         _ => one_by_one(from, to, src, n, dst),

@@ -1,23 +1,18 @@
 -- The sentences of demand 2 on records, and on choosing and clamping.
-use Prim.Native.Nat.{ℕ, _+_, _-_, _^_}
+use Prim.Native.Nat.{ℕ, _+_}
 use mathlib.Core.Path.{_≡_, refl, sym, _∙_, ap}
 use mathlib.Core.Bool.{Bool, true, false, not, cond}
 use mathlib.Core.List.{List, [], _∷_, _++_}
-use lib.Dec.{lit<}
 use lib.ListN.{length}
-use lib.Ieee.{Float, nan, inf, fin, binary32, isNan, toBits}
-use borrow.Author.Tests.{ltb-true}
+use lib.Ieee.{Float, binary32, toBits}
 use Rattle.float.specs.declared.Order.{Order}
 use Rattle.float.specs.declared.Order.the-variants.{Less, Equal, Greater, Unordered}
-use Rattle.float.specs.Format.{absOf, nanOf, infOf}
-use Rattle.float.specs.Number.{notNumber}
 use Rattle.float.specs.Number as float-number
 use Rattle.float.specs.Order.{isLess, isGreater, isLessOrEqual, isUnordered, orderOf, patternOf}
 use Rattle.float.specs.Order as float-order
-use Rattle.float.proofs.Comparing.{pattern-nan}
 use Rattle.float.proofs.Tests.{clash}
 use Rattle.value.specs.declared.Value.the-variants.{F32}
-use Rattle.value.specs.Meaning.{floatBits, nanWord}
+use Rattle.value.specs.Meaning.{floatBits}
 use Rattle.value.specs.Outcome.{gives, refuseIf, mapped}
 use Rattle.cmp.specs.declared.Range.{Range}
 use Rattle.cmp.specs.Choose.{valueOrder, sampleOrder, clampedBy, clampOf, sampleOf}
@@ -28,6 +23,7 @@ use Rattle.record.specs.Record.{fieldsOf, lexicalOf, orElse}
 use Rattle.record.specs.Record as «record»
 use Rattle.record.proofs.Given.{records-compared}
 use Rattle.row.specs.Convert.{floatOf}
+use Rattle.row.proofs.F32Sample.{same-pattern}
 use Rattle.laws_cmp.specs.Laws.{OneShape, AllEqual}
 use Rattle.laws_cmp.proofs.Choices.{min-by-less, min-by-equal, min-by-greater, max-by-less, max-by-equal, max-by-greater, clamp-below, clamp-above, clamp-within}
 use Rattle.laws_cmp.proofs.Fields.{equal-every}
@@ -71,19 +67,6 @@ of-records = record {
 }
 
 -- ---- the clamp of a sample is that of the value that holds it, whatever word stands beside it
-
-word-none : (p e w : ℕ) → nanOf p e (infOf p e + 2 ^ (p - 1)) ≡ true → patternOf p e (nanWord p e w) ≡ notNumber
-word-none p e w q = go (nanOf p e w) refl
-  where
-    go : (t : Bool) → nanOf p e w ≡ t → patternOf p e (cond t w (infOf p e + 2 ^ (p - 1))) ≡ notNumber
-    go true h = pattern-nan p e w (ltb-true _ _ h)
-    go false h = pattern-nan p e _ (ltb-true _ _ q)
-
-same-pattern : (x : Float) (w : ℕ) → patternOf 23 8 (floatBits binary32 x w) ≡ patternOf 23 8 (toBits binary32 x)
-unfolding floatBits absOf isNan toBits
-same-pattern nan w = word-none 23 8 w refl ∙ sym (pattern-nan 23 8 (toBits binary32 nan) (lit< tt))
-same-pattern (inf s) w = refl
-same-pattern (fin s m e) w = refl
 
 sample-order : (x y : Float) (u v : ℕ) → valueOrder (F32 x u) (F32 y v) ≡ sampleOrder x y
 unfolding float-order.compareOf

@@ -1,14 +1,18 @@
 -- One f32 sample into u16, by what its bits stand for.
 use mathlib.Core.Path.{_≡_, refl, sym, _∙_, ap}
-use mathlib.Core.Bool.{Bool, true, false}
-use Prim.Native.Nat.{ℕ, _+_, _*_, _/_, _%_, _^_}
+use mathlib.Core.Bool.{Bool, true, false, cond}
+use Prim.Native.Nat.{ℕ, _+_, _-_, _*_, _/_, _%_, _^_}
 use native.Mathlib.Nat.{eq-of-mul-eq-mul-right, div-add-mod', add-zero}
+use borrow.Author.Tests.{ltb-true}
+use lib.Dec.{lit<}
 use lib.Ieee.{Float, nan, inf, fin, binary32, isNan, toBits}
-use Rattle.float.specs.Format.{absOf}
+use Rattle.float.specs.Format.{absOf, nanOf, infOf}
 use Rattle.float.specs.Number.{Exact, notNumber, infinite, finite, times}
 use Rattle.float.specs.Order.{patternOf}
+use Rattle.float.proofs.Comparing.{pattern-nan}
 use Rattle.value.specs.declared.Kind.the-variants as kind
-use Rattle.value.specs.Meaning.{bitsOf, unit, stepOf, floatBits}
+use Rattle.value.specs.declared.Value.the-variants.{F32}
+use Rattle.value.specs.Meaning.{bitsOf, unit, stepOf, floatBits, nanWord}
 use Rattle.value.specs.Outcome.{gives, refuses, mapped}
 use Rattle.value.proofs.Units.{step-pos}
 use Rattle.convert.specs.Convert.{outside, intoOf, convertOf}
@@ -25,6 +29,25 @@ unfolding floatBits isNan toBits absOf
 bits-are nan = refl
 bits-are (inf s) = refl
 bits-are (fin s m e) = refl
+
+-- whatever word stands beside a NaN, it is no number
+word-none : (p e w : ℕ) → nanOf p e (infOf p e + 2 ^ (p - 1)) ≡ true → patternOf p e (nanWord p e w) ≡ notNumber
+word-none p e w q = go (nanOf p e w) refl
+  where
+    go : (t : Bool) → nanOf p e w ≡ t → patternOf p e (cond t w (infOf p e + 2 ^ (p - 1))) ≡ notNumber
+    go true h = pattern-nan p e w (ltb-true _ _ h)
+    go false h = pattern-nan p e _ (ltb-true _ _ q)
+
+pub same-pattern : (x : Float) (w : ℕ) → patternOf 23 8 (floatBits binary32 x w) ≡ patternOf 23 8 (toBits binary32 x)
+unfolding floatBits absOf isNan toBits
+same-pattern nan w = word-none 23 8 w refl ∙ sym (pattern-nan 23 8 (toBits binary32 nan) (lit< tt))
+same-pattern (inf s) w = refl
+same-pattern (fin s m e) w = refl
+
+-- so the word beside a sample changes nothing
+pub any-word : (x : Float) (w : ℕ) → mapped bitsOf (convertOf (F32 x w) kind.U16) ≡ f32ToU16 x
+unfolding f32ToU16 convertOf
+any-word x w = ap (λ (X : Exact). mapped bitsOf (intoOf kind.U16 (times (stepOf binary32) X))) (same-pattern x w ∙ sym (same-pattern x 0))
 
 module _ (x : Float) where
   by-exact : {X : Exact} → exactOf x ≡ X → f32ToU16 x ≡ mapped bitsOf (intoOf kind.U16 (times (stepOf binary32) X))

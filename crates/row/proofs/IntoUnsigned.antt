@@ -1,14 +1,15 @@
 -- One sample into an unsigned kind of k bits: a fraction is 3, a whole number out of its range 4, and any other is given.
-use mathlib.Core.Path.{_≡_, refl, _∙_, ap}
+use mathlib.Core.Path.{_≡_, refl, sym, _∙_, ap}
 use mathlib.Core.Bool.{Bool, true, false}
 use mathlib.Core.List.{List, map}
 use Prim.Native.Nat.{ℕ, _-_, _*_, _/_, _%_, _^_, _≤_, _<_}
 use native.Mathlib.Nat.{mul-div-cancel, mul-mod-left}
 use native.Mathlib.Omega.{arith}
-use borrow.Author.Tests.{eq-eqb, ne-eqb, le-ltb}
+use borrow.Author.Tests.{eq-eqb, ne-eqb, le-ltb, ltb-false}
 use lib.ListN.{length, getD}
 use lib.Pow.{pow-pos}
 use Rattle.float.specs.Number.{Exact, finite}
+use Rattle.float.proofs.Tests.{clash}
 use Rattle.value.specs.declared.Kind.{Kind}
 use Rattle.value.specs.declared.Kind.the-variants as kind
 use Rattle.value.specs.Kinds.{unsigned, formOf}
@@ -65,6 +66,14 @@ u16-narrower n h = into-inside kind.U8 8 refl false n u8-made h
 u16-wide : (n : ℕ) → isWide n ≡ true → u16ToU8 n ≡ refuses 4 0
 unfolding u16ToU8 convertOf
 u16-wide n h = ap (mapped bitsOf) (into-outside kind.U8 8 refl false n h)
+
+-- what a u16 is narrowed to is a byte
+pub narrow-small : (n b : ℕ) → u16ToU8 n ≡ gives b → b < 2 ^ 8
+narrow-small n b q = go (isWide n) refl
+  where
+    go : (t : Bool) → isWide n ≡ t → b < 2 ^ 8
+    go true h = clash (let k = sym (u16-wide n h) ∙ q in cc)
+    go false h = let k : n ≡ b = cc (sym (u16-narrower n h) ∙ q) in let l = ltb-false 255 n h in omega arith
 
 -- ---- a row of u16 to u8
 

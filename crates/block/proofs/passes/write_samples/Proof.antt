@@ -1,7 +1,7 @@
 -- The first i conversions are laid down.
-use mathlib.Core.Path.{_≡_, refl, sym}
+use mathlib.Core.Path.{_≡_, refl, sym, _∙_}
 use Prim.Native.Nat.{_+_, _-_, _*_, _≤_, _<_}
-use native.Mathlib.Nat.{zero-mul}
+use native.Mathlib.Nat.{zero-mul, zero-add}
 use native.Mathlib.Omega.{arith}
 use lib.ListN.{length}
 use Rattle.value.specs.declared.Value.the-variants.{U8}
@@ -14,7 +14,7 @@ use Rattle.block.proofs.passes.write_samples.Tie as tie
 
 abbrev Inv-loop : tie.InvT-loop
 Inv-loop from to src n dst₀ step width i₀ at₀ place₀ dst i at place =
-    (i ≤ n) × (at ≡ i * bytesOf from) × (place ≡ i * bytesOf to) × (Filled to (bitsFor to) (samplesIn from n src) dst₀ dst i)
+    (i ≤ n) × (at ≡ i * bytesOf from) × (place ≡ i * bytesOf to) × (Filled to (bitsFor to) (samplesIn from n src) dst₀ 0 dst i)
 
 abbrev μ-loop : tie.MeasureT-loop
 μ-loop from to src n dst₀ step width i₀ at₀ place₀ dst i at place = n - i
@@ -22,7 +22,7 @@ abbrev μ-loop : tie.MeasureT-loop
 loop-holds : tie.Need-loop-holds Inv-loop μ-loop
 loop-holds c =
     let a = c .before .before .before .before .args in
-    (omega arith, sym (zero-mul (bytesOf (a .from))), sym (zero-mul (bytesOf (a .to))), fill-none (a .to) (bitsFor (a .to)) (samplesIn (a .from) (a .n) (a .src .now)) (a .dst .now))
+    (omega arith, sym (zero-mul (bytesOf (a .from))), sym (zero-mul (bytesOf (a .to))), fill-none (a .to) (bitsFor (a .to)) (samplesIn (a .from) (a .n) (a .src .now)) (a .dst .now) 0)
 
 -- the bytes of the sample, and those of its conversion, are inside
 read-inside : (c : tie.In-loop Inv-loop μ-loop) → (let b = c .before in let a = b .before .before .before .before .before .args in b .loop .at + bytesOf (a .from) ≤ length (a .src .now))
@@ -71,7 +71,7 @@ loop-again c =
       omega (arith, turn .loop-test .taken),
       next-place (b .loop .i) (bytesOf (a .from)) (b .loop .inv .1) (b .before .before .sample-bytes .ensures .0),
       next-place (b .loop .i) (bytesOf (a .to)) (b .loop .inv .2) (b .before .sample-bytes2 .ensures .0),
-      fill-step (a .to) (bitsFor (a .to)) s (a .dst .now) (b .loop .i) (U8 0) below own (made .bits-to .ensures) (b .loop .dst) (b .loop .place) (b .before .sample-bytes2 .result) (b .loop .inv .2) (b .before .sample-bytes2 .ensures .0) (b .loop .inv .3) (stored .store .ensures),
+      fill-step (a .to) (bitsFor (a .to)) s (a .dst .now) 0 (b .loop .i) (U8 0) below own (made .bits-to .ensures) (b .loop .dst) (b .loop .place) (b .before .sample-bytes2 .result) (b .loop .inv .2 ∙ sym (zero-add (b .loop .i * bytesOf (a .to)))) (b .before .sample-bytes2 .ensures .0) (b .loop .inv .3) (stored .store .ensures),
     )
 
 returns : tie.Need-returns Inv-loop μ-loop
@@ -79,7 +79,7 @@ returns c =
     let b = c .before in
     let a = b .before .before .before .before .before .args in
     let s = samplesIn (a .from) (a .n) (a .src .now) in
-    fill-end (a .to) (bitsFor (a .to)) s (a .dst .now) (b .loop .dst) (b .loop .i) (omega (arith, length-samples (a .from) (a .n) (a .src .now), c .loop-test .left)) (b .loop .inv .3)
+    fill-end (a .to) (bitsFor (a .to)) s (a .dst .now) 0 (b .loop .dst) (b .loop .i) (omega (arith, length-samples (a .from) (a .n) (a .src .now), c .loop-test .left)) (b .loop .inv .3)
 
 pub write-samples-spec : {M : Type 1} → statement M
 write-samples-spec =

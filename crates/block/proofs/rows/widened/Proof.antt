@@ -1,22 +1,26 @@
--- The row has a place for each sample.
-use mathlib.Core.Path.{sym, _∙_}
-use Prim.Native.Nat.{ℕ, _/_, _≤_}
-use mathlib.Core.Path.{subst}
-use lib.ListN.{length, replicate, length-replicate}
-use Rattle.value.specs.declared.Kind.the-variants as kind
-use Rattle.block.specs.Samples.{bytesOf}
+-- The rows hold what the block asks for.
 use borrow.Author.Needs.{needs}
-use lib.Seq.{length-take-le}
+use native.Mathlib.Nat.{mul-comm}
+use lib.ListN.{length}
+use native.Mathlib.Omega.{arith}
+use Rattle.value.specs.declared.Kind.the-variants as kind
+use Rattle.block.proofs.Samplings.{room-inside}
+use Rattle.block.proofs.Rowing.{u8-count, widened-block}
 use Rattle.block.proofs.rows.widened.Statement.{statement}
 use Rattle.block.proofs.rows.widened.Tie as tie
 
-widened-by-requires : tie.Need-widened-by-requires
-widened-by-requires c κs =
+widen-rows-requires : tie.Need-widen-rows-requires
+widen-rows-requires c κs =
     let s = c .before .before .before .before in
-    let own = length-take-le {A = ℕ} (s .args .n) (replicate 32768 0) (rw (length-replicate {A = ℕ} 32768 0) (s .pre .2)) in
-    (own ∙ s .pre .0, subst (λ (m : ℕ). m ≤ length (s .args .dst .now) / bytesOf kind.U16) (sym own) (s .pre .1))
+    (omega arith, rw (mul-comm 2 (length (s .args .src .now)), u8-count (s .args .src .now)) (room-inside kind.U16 (s .pre)))
+
+returns : tie.Need-returns
+returns c =
+    let called = c .before .before .before in
+    let known = called .before .before .before .before in
+    let s = known .before in
+    let a = s .args in
+    widened-block (a .src .now) (a .dst .now) (s .pre) (λ i h. known .shared-slice-known .given i .fits) (called .widen-rows .ensures)
 
 pub widened-spec : {M : Type 1} → statement M
-widened-spec =
-    tie.close
-    (tie.spec (λ c. search needs) (λ c. sym (length-take-le _ _ (search needs))) widened-by-requires (λ c. search needs) (λ c. search needs))
+widened-spec = tie.close (tie.spec (λ c. search needs) widen-rows-requires (λ c. search needs) returns)

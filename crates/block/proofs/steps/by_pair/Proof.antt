@@ -1,10 +1,6 @@
 -- Each arm is told its kinds.
-use mathlib.Core.Path.{_∙_, ap, subst}
-use Prim.Native.Nat.{_/_, _≤_}
 use lib.ListN.{length}
-use Rattle.value.specs.declared.Kind.{Kind}
-use Rattle.block.specs.Samples.{bytesOf, countOf}
-use Rattle.block.proofs.Rowing.{by-kinds}
+use Rattle.block.proofs.Rowing.{by-kinds, count-by-kinds}
 use borrow.Author.Needs.{needs}
 use Rattle.block.proofs.steps.by_pair.Statement.{statement}
 use Rattle.block.proofs.steps.by_pair.Tie as tie
@@ -15,7 +11,17 @@ widened-requires c κs =
     let first = second .before .before in
     let s = first .before .before .before .before in
     let a = s .args in
-    (s .pre .0 ∙ ap (λ (k : Kind). countOf k (a .src .now)) (first .enum-told .given .1), subst (λ (k : Kind). a .n ≤ length (a .dst .now) / bytesOf k) (second .enum-told2 .given .1) (s .pre .1), s .pre .2)
+    let r = count-by-kinds (a .from) (a .to) (a .src .now) (a .n) (length (a .dst .now)) (first .enum-told .given .1) (second .enum-told2 .given .1) (s .pre .0) (s .pre .1) in
+    rw (← r .0) (r .1)
+
+narrowed-requires : tie.Need-narrowed-requires
+narrowed-requires c κs =
+    let second = c .before in
+    let first = second .before .before in
+    let s = first .before .before .before .before in
+    let a = s .args in
+    let r = count-by-kinds (a .from) (a .to) (a .src .now) (a .n) (length (a .dst .now)) (first .enum-told3 .given .1) (second .enum-told4 .given .1) (s .pre .0) (s .pre .1) in
+    (r .0, r .1, s .pre .2)
 
 floated-requires : tie.Need-floated-requires
 floated-requires c κs =
@@ -23,7 +29,17 @@ floated-requires c κs =
     let first = second .before .before in
     let s = first .before .before .before .before in
     let a = s .args in
-    (s .pre .0 ∙ ap (λ (k : Kind). countOf k (a .src .now)) (first .enum-told3 .given .1), subst (λ (k : Kind). a .n ≤ length (a .dst .now) / bytesOf k) (second .enum-told4 .given .1) (s .pre .1), s .pre .2)
+    let r = count-by-kinds (a .from) (a .to) (a .src .now) (a .n) (length (a .dst .now)) (first .enum-told3 .given .1) (second .enum-told5 .given .1) (s .pre .0) (s .pre .1) in
+    r
+
+made-whole-requires : tie.Need-made-whole-requires
+made-whole-requires c κs =
+    let second = c .before in
+    let first = second .before .before in
+    let s = first .before .before .before .before in
+    let a = s .args in
+    let r = count-by-kinds (a .from) (a .to) (a .src .now) (a .n) (length (a .dst .now)) (first .enum-told6 .given .1) (second .enum-told7 .given .1) (s .pre .0) (s .pre .1) in
+    (r .0, r .1, s .pre .2)
 
 returns : tie.Need-returns
 returns c =
@@ -39,7 +55,23 @@ returns-3 c =
     let second = called .before .before in
     let first = second .before .before in
     let a = first .before .before .before .before .args in
-    by-kinds (a .from) (a .to) (a .src .now) (a .dst .now) (first .enum-told3 .given .1) (second .enum-told4 .given .1) (called .floated .ensures)
+    by-kinds (a .from) (a .to) (a .src .now) (a .dst .now) (first .enum-told3 .given .1) (second .enum-told4 .given .1) (called .narrowed .ensures)
+
+returns-4 : tie.Need-returns-4
+returns-4 c =
+    let called = c .before .before in
+    let second = called .before .before in
+    let first = second .before .before in
+    let a = first .before .before .before .before .args in
+    by-kinds (a .from) (a .to) (a .src .now) (a .dst .now) (first .enum-told3 .given .1) (second .enum-told5 .given .1) (called .floated .ensures)
+
+returns-6 : tie.Need-returns-6
+returns-6 c =
+    let called = c .before .before in
+    let second = called .before .before in
+    let first = second .before .before in
+    let a = first .before .before .before .before .args in
+    by-kinds (a .from) (a .to) (a .src .now) (a .dst .now) (first .enum-told6 .given .1) (second .enum-told7 .given .1) (called .made-whole .ensures)
 
 pub by-pair-spec : {M : Type 1} → statement M
 by-pair-spec =
@@ -51,7 +83,13 @@ by-pair-spec =
     (λ c κs. search needs)
     (λ c. search needs)
     (λ c. search needs)
+    narrowed-requires
+    (λ c. search needs)
     floated-requires
+    (λ c κs. search needs)
+    (λ c. search needs)
+    (λ c. search needs)
+    made-whole-requires
     (λ c κs. search needs)
     (λ c κs. search needs)
     (λ c. search needs)
@@ -60,6 +98,12 @@ by-pair-spec =
     (λ c. search needs)
     (λ c. search needs)
     returns-3
+    (λ c. search needs)
+    returns-4
+    (λ c. search needs)
+    (λ c. search needs)
+    (λ c. search needs)
+    returns-6
     (λ c. search needs)
     (λ c. search needs)
     (λ c. search needs)
