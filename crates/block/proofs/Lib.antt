@@ -3,6 +3,7 @@ pub mod Samplings
 pub mod Pieces
 pub mod Blocks
 pub mod Rowing
+pub mod Pairs
 pub mod Joining
 pub mod Whole
 pub mod Looking

@@ -2,7 +2,7 @@
 use mathlib.Core.Path.{_≡_, refl, sym, _∙_, ap}
 use mathlib.Core.List.{List, [], _∷_, _++_}
 use Prim.Native.Nat.{ℕ, zero, suc, _+_, _-_, _*_, _/_, _%_, _^_, _≤_, _<_}
-use native.Mathlib.Nat.{pow-suc, pow-le-pow-right, lt-of-lt-of-le, zero-lt-suc, suc-add, add-suc, add-zero}
+use native.Mathlib.Nat.{mul-comm, zero-add, pow-suc, pow-le-pow-right, lt-of-lt-of-le, zero-lt-suc, suc-add, add-suc, add-zero}
 use native.Mathlib.Numerals.{add-one}
 use native.Mathlib.Omega.{arith}
 use lib.ListN.{length, take, drop, getD, set, length-drop, length-set, drop-of-length-le}
@@ -82,3 +82,36 @@ module _ (old : List ℕ) (to width n : ℕ) where
 pub sets-append : (a b l : List ℕ) (i : ℕ) → sets (sets l i a) (i + length a) b ≡ sets l i (a ++ b)
 sets-append [] b l i = rw (add-zero i) refl
 sets-append (x ∷ a) b l i = rw (add-suc i (length a), ← suc-add i (length a)) (sets-append a b (set l i x) (suc i))
+
+-- ---- numbers of two and four bytes
+
+pub two-here : (src : List ℕ) (i : ℕ) → 2 * i + 1 < length src → numberFrom (take 2 (drop (i * 2) src)) ≡ getD src (2 * i + 1) 0 * 256 + getD src (2 * i) 0
+unfolding numberFrom
+two-here src i h =
+    let j = 2 * i in
+    ap (λ (m : ℕ). numberFrom (take 2 (drop m src))) (mul-comm i 2)
+    ∙ ap (λ (l : List ℕ). numberFrom (take 2 l)) (drop-cons src j 0 (omega arith) ∙ ap (λ (l : List ℕ). getD src j 0 ∷ l) (drop-cons src (suc j) 0 (omega arith)))
+    ∙ ap (λ (x : ℕ). x * 256 + getD src j 0) (zero-add (getD src (suc j) 0))
+    ∙ ap (λ (m : ℕ). getD src m 0 * 256 + getD src j 0) (sym (add-one j))
+
+pub four-here : (src : List ℕ) (i : ℕ) → 4 * i + 3 < length src
+    → numberFrom (take 4 (drop (i * 4) src)) ≡ ((getD src (4 * i + 3) 0 * 256 + getD src (4 * i + 2) 0) * 256 + getD src (4 * i + 1) 0) * 256 + getD src (4 * i) 0
+unfolding numberFrom
+four-here src i h =
+    let j = 4 * i in
+    let one : j + 1 ≡ suc j = omega arith in
+    let two : j + 2 ≡ suc (suc j) = omega arith in
+    let three : j + 3 ≡ suc (suc (suc j)) = omega arith in
+    ap (λ (m : ℕ). numberFrom (take 4 (drop m src))) (mul-comm i 4)
+    ∙ rw (drop-cons src j 0 (omega arith), drop-cons src (suc j) 0 (omega arith), drop-cons src (suc (suc j)) 0 (omega arith), drop-cons src (suc (suc (suc j))) 0 (omega arith), zero-add (getD src (suc (suc (suc j))) 0), one, two, three) refl
+
+pub lay-two : (now : List ℕ) (j b : ℕ) → set (set now j (b % 256)) (j + 1) (b / 256 % 256) ≡ sets now j (littleEndian 2 b)
+unfolding littleEndian
+lay-two now j b = rw (add-one j) refl
+
+pub lay-four : (now : List ℕ) (j b : ℕ) → set (set (set (set now j (b % 256)) (j + 1) (b / 256 % 256)) (j + 2) (b / 256 / 256 % 256)) (j + 3) (b / 256 / 256 / 256 % 256) ≡ sets now j (littleEndian 4 b)
+unfolding littleEndian
+lay-four now j b =
+    let two : j + 2 ≡ suc (suc j) = omega arith in
+    let three : j + 3 ≡ suc (suc (suc j)) = omega arith in
+    rw (add-one j, two, three) refl

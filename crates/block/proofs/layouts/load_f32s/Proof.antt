@@ -7,7 +7,7 @@ use lib.Ieee.{binary32, ofBits}
 use Rattle.row.proofs.Written.{Written, write-step, write-end}
 use Rattle.block.specs.Steps.{numbersIn}
 use Rattle.block.proofs.Samplings.{length-numbers, number-here}
-use Rattle.block.proofs.Rowing.{four-here}
+use Rattle.block.proofs.LittleEndian.{four-here}
 use borrow.Author.Needs.{needs}
 use Rattle.block.proofs.layouts.load_f32s.Statement.{statement}
 use Rattle.block.proofs.layouts.load_f32s.Tie as tie

@@ -8,7 +8,7 @@ use lib.Seq.{lt-length-set}
 use lib.Ieee.{nan}
 use Rattle.value.specs.declared.Kind.the-variants as kind
 use Rattle.block.proofs.Samplings.{Filled, fill-none, fill-step, fill-end}
-use Rattle.block.proofs.Rowing.{lay-four}
+use Rattle.block.proofs.LittleEndian.{lay-four}
 use Rattle.block.specs.Steps.{plainBits}
 use borrow.Author.Needs.{needs}
 use Rattle.block.proofs.layouts.store_f32s.Statement.{statement}

@@ -7,7 +7,7 @@ use lib.ListN.{length, getD}
 use lib.Seq.{lt-length-set}
 use Rattle.value.specs.declared.Kind.the-variants as kind
 use Rattle.block.proofs.Samplings.{Filled, fill-none, fill-step, fill-end}
-use Rattle.block.proofs.Rowing.{lay-two}
+use Rattle.block.proofs.LittleEndian.{lay-two}
 use borrow.Author.Needs.{needs}
 use Rattle.block.proofs.layouts.store_u16s.Statement.{statement}
 use Rattle.block.proofs.layouts.store_u16s.Tie as tie

@@ -9,7 +9,8 @@ use Rattle.row.specs.Convert.{asF32}
 use Rattle.block.specs.Samples.{bytesFor}
 use Rattle.block.specs.Steps.{numbersIn, plainBits, floatedBits}
 use Rattle.block.proofs.Samplings.{length-numbers}
-use Rattle.block.proofs.Rowing.{floated-row, map-same, map-both}
+use Rattle.block.proofs.Rowing.{map-same, map-both}
+use Rattle.block.proofs.Pairs.{floated-row}
 use borrow.Author.Needs.{needs}
 use Rattle.block.proofs.rows.float_row.Statement.{statement}
 use Rattle.block.proofs.rows.float_row.Tie as tie

@@ -6,7 +6,8 @@ use lib.Seq.{length-take-le}
 use Rattle.row.specs.Row.{rowedOutcome}
 use Rattle.block.specs.Steps.{numbersIn}
 use Rattle.block.proofs.Samplings.{length-numbers}
-use Rattle.block.proofs.Rowing.{map-same, narrowed-block}
+use Rattle.block.proofs.Rowing.{map-same}
+use Rattle.block.proofs.Pairs.{narrowed-block}
 use borrow.Author.Needs.{needs}
 use Rattle.block.proofs.rows.narrow_row.Statement.{statement}
 use Rattle.block.proofs.rows.narrow_row.Tie as tie

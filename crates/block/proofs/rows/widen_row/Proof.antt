@@ -5,7 +5,8 @@ use mathlib.Core.List.{List}
 use lib.Seq.{sets}
 use Rattle.value.specs.declared.Kind.the-variants as kind
 use Rattle.block.specs.Samples.{bytesFor}
-use Rattle.block.proofs.Rowing.{widened-row, map-same}
+use Rattle.block.proofs.Rowing.{map-same}
+use Rattle.block.proofs.Pairs.{widened-row}
 use borrow.Author.Needs.{needs}
 use Rattle.block.proofs.rows.widen_row.Statement.{statement}
 use Rattle.block.proofs.rows.widen_row.Tie as tie
