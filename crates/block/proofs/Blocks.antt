@@ -17,7 +17,8 @@ use Rattle.convert.specs.Convert.{convertOf}
 use Rattle.row.specs.Row.{rowAnswer, rowResults, first}
 use Rattle.row.proofs.Scan.{first-all, first-hit}
 use Rattle.row.proofs.Rows.{row-refused, row-done}
-use Rattle.block.specs.Samples.{bytesOf, countOf, leftOf, samplesOf, bytesFor}
+use Rattle.value.specs.Kinds.{bytesOf}
+use Rattle.block.specs.Samples.{countOf, leftOf, samplesOf, bytesFor}
 use Rattle.block.specs.Migrate.{bitsTo, outputOf, placedFrom, blockAnswer, bufferAfter, blockExit, stepSamples, stepAnswer, stepExit}
 use Rattle.block.specs.Steps.{isRefused, numberIn, bitsIn, refusedTo, bitsFor}
 use Rattle.block.proofs.Samplings.{room-inside, length-samples, length-bytes}

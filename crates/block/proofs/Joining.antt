@@ -9,9 +9,11 @@ use lib.Seq.{take-append-le, drop-append-le}
 use Rattle.value.specs.declared.Kind.{Kind}
 use Rattle.value.specs.Outcome.{Outcome, gives, refuses, andThen, Success}
 use Rattle.row.specs.Row.{rowAnswer, rowResults, sampleThen, sampleBefore}
-use Rattle.block.specs.Samples.{bytesOf, countOf, leftOf, samplesIn, samplesOf, bytesFor}
+use Rattle.value.specs.Kinds.{bytesOf}
+use Rattle.block.specs.Samples.{countOf, leftOf, samplesIn, samplesOf, bytesFor}
 use Rattle.block.specs.Migrate.{bitsTo, outputOf, placedFrom}
-use Rattle.block.proofs.Samplings.{bytes-range, bytes-append}
+use Rattle.value.proofs.Widths.{bytes-range}
+use Rattle.block.proofs.Samplings.{bytes-append}
 
 -- ---- rows joined
 

@@ -19,7 +19,8 @@ use Rattle.row.specs.declared.Rowed.{Rowed}
 use Rattle.row.specs.declared.Rowed.the-variants as rowed
 use Rattle.row.specs.Row.{rowedOutcome, rowAnswer, sampleThen}
 use Rattle.block.specs.declared.Seen.{Seen}
-use Rattle.block.specs.Samples.{bytesOf, countOf, leftOf, samplesOf}
+use Rattle.value.specs.Kinds.{bytesOf}
+use Rattle.block.specs.Samples.{countOf, leftOf, samplesOf}
 use Rattle.block.specs.Migrate.{bitsTo, answerOf, counted}
 use Rattle.block.specs.Steps.{refusedTo}
 use Rattle.block.specs.Report.{isNan, countIf, firstOf, notedOf, nothingSeen, allNoted, leftNoted, lookOf}

@@ -23,7 +23,8 @@ use Rattle.row.proofs.ConvertRow.{always-done}
 use Rattle.row.proofs.F32Sample.{bits-are, any-word}
 use Rattle.row.proofs.IntoUnsigned.{u8-wider, narrow-small}
 use Rattle.row.proofs.IntoF32.{encoded, same-number, u16-float}
-use Rattle.block.specs.Samples.{bytesOf, littleEndian, numberFrom, countOf, samplesOf, bytesFor}
+use Rattle.value.specs.Kinds.{bytesOf}
+use Rattle.block.specs.Samples.{littleEndian, numberFrom, countOf, samplesOf, bytesFor}
 use Rattle.block.specs.Migrate.{bitsTo}
 use Rattle.block.specs.Steps.{numbersIn, plainBits, floatedBits}
 use Rattle.block.proofs.Samplings.{length-numbers}

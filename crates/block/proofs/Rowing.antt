@@ -15,7 +15,8 @@ use Rattle.value.specs.Outcome.{Outcome, gives, refuses, refuseIf, mapped, Succ
 use Rattle.row.specs.Row.{rowAnswer, rowResults, rowExit, sampleThen, sampleBefore}
 use Rattle.row.specs.Convert.{convertAnswer, convertExit}
 use Rattle.row.proofs.ConvertRow.{always-done}
-use Rattle.block.specs.Samples.{bytesOf, countOf, samplesOf, bytesFor}
+use Rattle.value.specs.Kinds.{bytesOf}
+use Rattle.block.specs.Samples.{countOf, samplesOf, bytesFor}
 use Rattle.block.specs.Migrate.{bitsTo, blockAnswer}
 use Rattle.block.specs.Steps.{numbersIn}
 use Rattle.block.proofs.LittleEndian.{number-below}

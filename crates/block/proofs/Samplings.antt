@@ -5,33 +5,18 @@ use Prim.Native.Nat.{ℕ, zero, suc, _+_, _*_, _/_, _≤_, _<_}
 use native.Mathlib.Nat.{div-mul-le-self, le-div-iff-mul-le, zero-mul, mul-zero, suc-mul, mul-suc, add-comm, le-trans, mul-le-mul-right, le-of-suc-le-suc, not-suc-le-zero}
 use native.Mathlib.Numerals.{add-one}
 use native.Mathlib.Omega.{arith}
-use lib.Dec.{lit≤, lit<}
 use lib.ListN.{length, take, drop, getD, length-append, length-map}
 use lib.Seq.{sets, length-take-le, length-sets, take-add, take-all, drop-cons, drop-drop}
 use Rattle.value.specs.declared.Kind.{Kind}
-use Rattle.value.specs.declared.Kind.the-variants as kind
 use Rattle.value.specs.declared.Value.{Value}
 use Rattle.value.specs.Meaning.{valueOf}
-use Rattle.block.specs.Samples.{bytesOf, countOf, littleEndian, numberFrom, samplesIn, bytesFor}
+use Rattle.value.specs.Kinds.{bytesOf}
+use Rattle.value.proofs.Widths.{bytes-range}
+use Rattle.block.specs.Samples.{countOf, littleEndian, numberFrom, samplesIn, bytesFor}
 use Rattle.block.specs.Steps.{numbersIn}
 use Rattle.block.proofs.LittleEndian.{length-little, sets-append}
 
--- ---- how many bytes a sample has
-
-pub bytes-range : (k : Kind) → (0 < bytesOf k) × (bytesOf k ≤ 8)
-bytes-range kind.U8 = (lit< tt, lit≤ tt)
-bytes-range kind.U16 = (lit< tt, lit≤ tt)
-bytes-range kind.U32 = (lit< tt, lit≤ tt)
-bytes-range kind.U64 = (lit< tt, lit≤ tt)
-bytes-range kind.I8 = (lit< tt, lit≤ tt)
-bytes-range kind.I16 = (lit< tt, lit≤ tt)
-bytes-range kind.I32 = (lit< tt, lit≤ tt)
-bytes-range kind.I64 = (lit< tt, lit≤ tt)
-bytes-range kind.F32 = (lit< tt, lit≤ tt)
-bytes-range kind.F64 = (lit< tt, lit≤ tt)
-
-pub bytes-known : {k l : Kind} → k ≡ l → (bytesOf l ≡ bytesOf k) × (0 < bytesOf l) × (bytesOf l ≤ 8)
-bytes-known {k} {l} q = (ap bytesOf (sym q), bytes-range l .0, bytes-range l .1)
+-- ---- how many bytes samples have
 
 -- a number of samples that came by division is inside
 pub count-inside : (k : Kind) (bytes : List ℕ) {n : ℕ} → n ≡ countOf k bytes → n * bytesOf k ≤ length bytes

@@ -12,7 +12,8 @@ use Rattle.float.proofs.Naturals.{lt-or-ge}
 use Rattle.value.specs.declared.Kind.{Kind}
 use Rattle.value.specs.Outcome.{Outcome, gives, refuses, refuseIf, andThen, mapped, Success, done}
 use Rattle.row.specs.Row.{rowAnswer, rowResults}
-use Rattle.block.specs.Samples.{bytesOf, countOf, leftOf, samplesIn, samplesOf, bytesFor}
+use Rattle.value.specs.Kinds.{bytesOf}
+use Rattle.block.specs.Samples.{countOf, leftOf, samplesIn, samplesOf, bytesFor}
 use Rattle.block.specs.Migrate.{bitsTo, answerOf, outputOf, migrateOf, counted, placedFrom, blockAnswer, stepSamples, stepAnswer}
 use Rattle.block.specs.Theorem.{joined, Blocks, none, last, more, Reached, writtenBy, stepped, runOf, begun, BlocksDecide}
 use Rattle.block.proofs.Samplings.{length-samples}

@@ -10,7 +10,8 @@ use Rattle.value.specs.Meaning.{bitsOf}
 use Rattle.value.specs.Outcome.{Outcome, gives, refuses, refuseIf, andThen, mapped, Success}
 use Rattle.convert.specs.Convert.{convertOf}
 use Rattle.row.specs.Row.{rowAnswer, rowResults}
-use Rattle.block.specs.Samples.{bytesOf, countOf, leftOf, samplesOf, bytesFor}
+use Rattle.value.specs.Kinds.{bytesOf}
+use Rattle.block.specs.Samples.{countOf, leftOf, samplesOf, bytesFor}
 
 -- ---- the whole
 

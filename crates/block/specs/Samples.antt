@@ -4,12 +4,8 @@ use mathlib.Core.List.{List, [], _∷_, _++_}
 use lib.ListN.{length, take, drop}
 use Rattle.value.specs.declared.Kind.{Kind}
 use Rattle.value.specs.declared.Value.{Value}
-use Rattle.value.specs.Kinds.{widthOf}
+use Rattle.value.specs.Kinds.{bytesOf}
 use Rattle.value.specs.Meaning.{valueOf}
-
--- how many bytes a sample has
-abbrev pub bytesOf : Kind → ℕ
-bytesOf k = widthOf k / 8
 
 -- the last k bytes of n, low byte first
 unfoldable pub littleEndian : ℕ → ℕ → List ℕ

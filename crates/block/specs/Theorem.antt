@@ -5,7 +5,8 @@ use mathlib.Core.List.{List, [], _∷_, _++_}
 use lib.ListN.{length}
 use Rattle.value.specs.declared.Kind.{Kind}
 use Rattle.value.specs.Outcome.{Outcome, gives, refuses, mapped, Success, done}
-use Rattle.block.specs.Samples.{bytesOf, countOf, leftOf}
+use Rattle.value.specs.Kinds.{bytesOf}
+use Rattle.block.specs.Samples.{countOf, leftOf}
 use Rattle.block.specs.Migrate.{outputOf, migrateOf, stepSamples, stepAnswer}
 
 -- the whole input

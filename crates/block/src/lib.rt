@@ -11,7 +11,6 @@ mod steps;
 pub use looks::look_block;
 pub use looks::nothing_seen;
 use row::Rowed;
-pub use samples::sample_bytes;
 pub use steps::convert_block;
 pub use steps::start;
 use value::Value;

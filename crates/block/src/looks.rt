@@ -4,7 +4,8 @@ ghost use mathlib.Core.Bool.{cond};
 ghost use Prim.Native.Nat.{_*_, _≤_};
 ghost use lib.ListN.{length};
 ghost use Rattle.cmp.specs.Compare.{testedOutcome};
-ghost use Rattle.block.specs.Samples.{bytesOf, samplesIn};
+ghost use Rattle.value.specs.Kinds.{bytesOf};
+ghost use Rattle.block.specs.Samples.{samplesIn};
 ghost use Rattle.block.specs.Migrate.{bitsTo};
 ghost use Rattle.block.specs.Steps.{refusedTo};
 ghost use Rattle.block.specs.Report.{says, isNan, lowerOf, higherOf, countIf, firstOf, notedOf, nothingSeen, allNoted, leftNoted, lookOf};
@@ -13,7 +14,6 @@ use crate::Seen;
 use crate::samples::is_refused;
 use crate::samples::number_of;
 use crate::samples::sample_at;
-use crate::samples::sample_bytes;
 use crate::steps::refused;
 use cmp::Tested;
 use cmp::gt;
@@ -23,6 +23,7 @@ use row::Rowed;
 use std::num::wrapping_add_usize;
 use value::Kind;
 use value::Value;
+use value::bytes_of;
 
 // No samples yet.
 pub fn nothing_seen() -> Seen
@@ -120,7 +121,7 @@ fn all_noted(s: Seen, from: Kind, to: Kind, src: &[u8], n: usize) -> Seen
     requires { ⌜ n * bytesOf from ≤ length (now src) ⌝ }
     ensures { λ r. ⌜ r ≡ allNoted to s (samplesIn from n (now (src .entry))) ⌝ }
 {
-    let width = sample_bytes(from);
+    let width = bytes_of(from);
     let mut seen = s;
     let mut i = 0;
     let mut at = 0;
@@ -151,7 +152,7 @@ fn left_noted(s: Seen) -> Seen
 pub fn look_block(s: Seen, from: Kind, to: Kind, src: &[u8]) -> Seen
     ensures { λ r. ⌜ r ≡ lookOf from to s (now (src .entry)) ⌝ }
 {
-    let width = sample_bytes(from);
+    let width = bytes_of(from);
     let seen = all_noted(s, from, to, src, src.len() / width);
     if src.len() % width != 0 {
         return left_noted(seen);

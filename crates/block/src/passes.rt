@@ -5,21 +5,22 @@ ghost use Prim.Native.Nat.{_*_, _≤_};
 ghost use lib.ListN.{length};
 ghost use lib.Seq.{sets};
 ghost use Rattle.row.specs.Row.{first};
-ghost use Rattle.block.specs.Samples.{bytesOf, samplesIn, bytesFor};
+ghost use Rattle.value.specs.Kinds.{bytesOf};
+ghost use Rattle.block.specs.Samples.{samplesIn, bytesFor};
 ghost use Rattle.block.specs.Steps.{refusedTo, bitsFor};
 use crate::bytes::store;
 use crate::samples::bits_to;
 use crate::samples::is_refused;
 use crate::samples::sample_at;
-use crate::samples::sample_bytes;
 use value::Kind;
+use value::bytes_of;
 
 // The index of the first of n samples that is refused, or n.
 pub(crate) fn first_refused(from: Kind, to: Kind, src: &[u8], n: usize) -> usize
     requires { ⌜ n * bytesOf from ≤ length (now src) ⌝ }
     ensures { λ r. ⌜ r ≡ first (refusedTo to) (samplesIn from n (now (src .entry))) ⌝ }
 {
-    let width = sample_bytes(from);
+    let width = bytes_of(from);
     let mut i = 0;
     let mut at = 0;
     while i < n {
@@ -37,8 +38,8 @@ pub(crate) fn write_samples(from: Kind, to: Kind, src: &[u8], n: usize, dst: &mu
     requires { ⌜ (n * bytesOf from ≤ length (now src)) × (n * bytesOf to ≤ length (now dst)) ⌝ }
     ensures { λ _. ⌜ now (dst .exit) ≡ sets (now (dst .entry)) 0 (bytesFor to (map (bitsFor to) (samplesIn from n (now (src .entry))))) ⌝ }
 {
-    let step = sample_bytes(from);
-    let width = sample_bytes(to);
+    let step = bytes_of(from);
+    let width = bytes_of(to);
     let mut i = 0;
     let mut at = 0;
     let mut place = 0;

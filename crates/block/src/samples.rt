@@ -3,7 +3,8 @@ ghost use mathlib.Core.Path.{_≡_};
 ghost use Prim.Native.Nat.{_+_, _≤_, _<_};
 ghost use lib.ListN.{length, take, drop};
 ghost use Rattle.value.specs.Meaning.{valueOf};
-ghost use Rattle.block.specs.Samples.{bytesOf, numberFrom};
+ghost use Rattle.value.specs.Kinds.{bytesOf};
+ghost use Rattle.block.specs.Samples.{numberFrom};
 ghost use Rattle.block.specs.Migrate.{bitsTo};
 ghost use Rattle.block.specs.Steps.{isRefused, numberIn, bitsIn};
 use crate::bytes::load;
@@ -12,31 +13,15 @@ use convert::convert;
 use value::Kind;
 use value::Value;
 use value::bits_of;
+use value::bytes_of;
 use value::value_of;
-
-pub fn sample_bytes(k: Kind) -> usize
-    ensures { λ r. ⌜ (r ≡ bytesOf k) × (0 < r) × (r ≤ 8) ⌝ }
-{
-    match k {
-        Kind::U8 => 1,
-        Kind::U16 => 2,
-        Kind::U32 => 4,
-        Kind::U64 => 8,
-        Kind::I8 => 1,
-        Kind::I16 => 2,
-        Kind::I32 => 4,
-        Kind::I64 => 8,
-        Kind::F32 => 4,
-        Kind::F64 => 8,
-    }
-}
 
 // The sample whose first byte is at a place.
 pub(crate) fn sample_at(k: Kind, src: &[u8], at: usize) -> Value
     requires { ⌜ at + bytesOf k ≤ length (now src) ⌝ }
     ensures { λ r. ⌜ r ≡ valueOf k (numberFrom (take (bytesOf k) (drop at (now (src .entry))))) ⌝ }
 {
-    value_of(k, load(src, at, sample_bytes(k)))
+    value_of(k, load(src, at, bytes_of(k)))
 }
 
 pub(crate) fn is_refused(v: Value, to: Kind) -> bool

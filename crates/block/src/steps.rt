@@ -3,7 +3,8 @@ ghost use mathlib.Core.Path.{_≡_};
 ghost use Prim.Native.Nat.{_/_, _≤_};
 ghost use lib.ListN.{length};
 ghost use Rattle.row.specs.Row.{rowedOutcome};
-ghost use Rattle.block.specs.Samples.{bytesOf, countOf};
+ghost use Rattle.value.specs.Kinds.{bytesOf};
+ghost use Rattle.block.specs.Samples.{countOf};
 ghost use Rattle.block.specs.Migrate.{placedFrom, blockAnswer, blockExit, stepSamples, stepAnswer, stepExit};
 use crate::Progress;
 use crate::passes::first_refused;
@@ -14,11 +15,11 @@ use crate::rows::narrowed;
 use crate::rows::widened;
 use crate::samples::number_of;
 use crate::samples::sample_at;
-use crate::samples::sample_bytes;
 use row::Rowed;
 use std::num::wrapping_add_usize;
 use value::Kind;
 use value::Refusal;
+use value::bytes_of;
 
 // No samples yet, and nothing refused.
 pub fn start() -> Progress
@@ -44,7 +45,7 @@ fn one_by_one(from: Kind, to: Kind, src: &[u8], n: usize, dst: &mut [u8]) -> Row
 {
     let i = first_refused(from, to, src, n);
     if i < n {
-        let v = sample_at(from, src, i * sample_bytes(from));
+        let v = sample_at(from, src, i * bytes_of(from));
         return refused(number_of(v, to), i);
     }
     write_samples(from, to, src, n, dst);
@@ -80,8 +81,8 @@ fn block(from: Kind, to: Kind, src: &[u8], dst: &mut [u8]) -> Rowed
     ensures answer { λ r. ⌜ rowedOutcome r ≡ blockAnswer from to (now (src .entry)) (length (now (dst .entry))) ⌝ }
     ensures exit { λ _. ⌜ now (dst .exit) ≡ blockExit from to (now (src .entry)) (now (dst .entry)) ⌝ }
 {
-    let n = src.len() / sample_bytes(from);
-    if dst.len() / sample_bytes(to) < n {
+    let n = src.len() / bytes_of(from);
+    if dst.len() / bytes_of(to) < n {
         return refused(9, 0);
     }
     if n > 32768 {
@@ -106,7 +107,7 @@ pub fn convert_block(s: Progress, from: Kind, to: Kind, src: &[u8], dst: &mut [u
     ensures answer { λ r. ⌜ rowedOutcome (r .answer) ≡ stepAnswer from to (s .samples) (rowedOutcome (s .answer)) (now (src .entry)) (length (now (dst .entry))) ⌝ }
     ensures exit { λ _. ⌜ now (dst .exit) ≡ stepExit from to (s .samples) (rowedOutcome (s .answer)) (now (src .entry)) (now (dst .entry)) ⌝ }
 {
-    let width = sample_bytes(from);
+    let width = bytes_of(from);
     let samples = wrapping_add_usize(s.samples, src.len() / width);
     if src.len() % width != 0 {
         return Progress {

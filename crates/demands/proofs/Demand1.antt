@@ -13,7 +13,7 @@ use Rattle.value.specs.declared.Kind.{Kind}
 use Rattle.value.specs.declared.Kind.the-variants as kind
 use Rattle.value.specs.declared.Value.{Value}
 use Rattle.value.specs.declared.Value.the-variants.{U8, U16, F32}
-use Rattle.value.specs.Kinds.{kindOf, kindNumber, formOf}
+use Rattle.value.specs.Kinds.{kindOf, kindNumber, formOf, bytesOf}
 use Rattle.value.specs.Meaning.{exactOf, bitsOf, valueOf}
 use Rattle.value.specs.Outcome.{Outcome, Success, gives, done, refuseIf, mapped}
 use Rattle.cmp.specs.declared.Range.{Range}
@@ -28,7 +28,7 @@ use Rattle.record.specs.declared.Record.{Record}
 use Rattle.record.specs.declared.Shape.{Shape}
 use Rattle.record.specs.Record.{fieldFor, badCount, kindsIn, fieldsOf, recordOf, setOf, getOf, pushOf, shapeOf}
 use Rattle.record.specs.Record as «record»
-use Rattle.key.specs.Key.{bytesOf, keyOf, nanThen, writeOf, bufferAfter, writeExit, numberFrom, bitsFrom, notCanonical, bytesIn, readFields, readOf}
+use Rattle.key.specs.Key.{keyOf, nanThen, writeOf, bufferAfter, writeExit, numberFrom, bitsFrom, notCanonical, bytesIn, readFields, readOf}
 use Rattle.demands.specs.Rules.{Rule, rule, By, placed, eachOf}
 use Rattle.demands.specs.Demand1.{valueRules, choiceRules, clampRules, boundsRule, convertRules, sampleRules, recordRules, recordChoiceRules, placeRules, shapeRules, rowRules, rowClampRules, writeRules, fieldBytes, readRules, ByItsRules, Unchanged, Demand1}
 use Rattle.demands.proofs.Rules.{chain, by-chain, chain-join, chain-mapped}

@@ -13,7 +13,7 @@ use Rattle.value.specs.declared.Kind.{Kind}
 use Rattle.value.specs.declared.Kind.the-variants as kind
 use Rattle.value.specs.declared.Value.{Value}
 use Rattle.value.specs.declared.Value.the-variants.{U8, U16, F32}
-use Rattle.value.specs.Kinds.{kindOf, kindNumber, formOf}
+use Rattle.value.specs.Kinds.{kindOf, kindNumber, formOf, bytesOf}
 use Rattle.value.specs.Meaning.{exactOf}
 use Rattle.value.specs.Outcome.{Outcome, refuses}
 use Rattle.cmp.specs.declared.Range.{Range}
@@ -27,7 +27,7 @@ use Rattle.record.specs.declared.Record.{Record}
 use Rattle.record.specs.declared.Shape.{Shape}
 use Rattle.record.specs.Record.{fieldsOf, badCount, shapesDiffer, lexicalOf, decidingOf, kindsIn, setOf, getOf, pushOf, shapeOf}
 use Rattle.record.specs.Record as «record»
-use Rattle.key.specs.Key.{bytesOf, keyOf, writeOf, writeExit, numberFrom, notCanonical, bytesIn, readOf}
+use Rattle.key.specs.Key.{keyOf, writeOf, writeExit, numberFrom, notCanonical, bytesIn, readOf}
 use Rattle.demands.specs.Rules.{Rule, rule, By, eachOf}
 
 -- ---- the rules of each call, in their order

@@ -16,11 +16,11 @@ use Rattle.value.specs.declared.Kind.{Kind}
 use Rattle.value.specs.declared.Kind.the-variants as kind
 use Rattle.value.specs.declared.Value.{Value}
 use Rattle.value.specs.declared.Value.the-variants.{U8, U16, U32, U64, I8, I16, I32, I64, F32, F64}
-use Rattle.value.specs.Kinds.{formOf, kindOf}
+use Rattle.value.specs.Kinds.{formOf, kindOf, bytesOf}
 use Rattle.value.specs.Meaning.{Content, natural, integer, real, contentOf, wholeOf, unit, exactIn, valueOf}
 use Rattle.cmp.specs.Choose.{valueOrder}
 use Rattle.cmp.proofs.Numbers.{integers-order}
-use Rattle.key.specs.Key.{keyIn, keyNumber, bytesOf, bitsFrom, notCanonical}
+use Rattle.key.specs.Key.{keyIn, keyNumber, bitsFrom, notCanonical}
 use Rattle.key.specs.Theorem.{InRange, Keyed, normal}
 use Rattle.key.proofs.Ranges.{formIn, content-form}
 use Rattle.key.proofs.SignedKeys.{shifted-order, shifted-below, shifted-read, read-shifted}

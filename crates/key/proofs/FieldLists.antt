@@ -13,7 +13,7 @@ use Rattle.float.specs.declared.Order.the-variants.{Equal}
 use Rattle.float.proofs.Tests.{clash}
 use Rattle.value.specs.declared.Kind.{Kind}
 use Rattle.value.specs.declared.Value.{Value}
-use Rattle.value.specs.Kinds.{formOf, kindOf}
+use Rattle.value.specs.Kinds.{formOf, kindOf, bytesOf}
 use Rattle.value.specs.Meaning.{valueOf}
 use Rattle.value.specs.Outcome.{gives}
 use Rattle.value.proofs.MadeValues.{value-kind}
@@ -21,7 +21,7 @@ use Rattle.value.proofs.Outcomes.{refuse-passes}
 use Rattle.cmp.specs.Choose.{valueOrder}
 use Rattle.record.specs.declared.Field.{Field}
 use Rattle.record.specs.Record.{fieldFor, orElse, lexicalOf, kindsOf}
-use Rattle.key.specs.Key.{keyNumber, bytesOf, bigEndian, fieldKey, keyOf, numberFrom, bitsFrom, notCanonical, bytesIn, readFields}
+use Rattle.key.specs.Key.{keyNumber, bigEndian, fieldKey, keyOf, numberFrom, bitsFrom, notCanonical, bytesIn, readFields}
 use Rattle.key.specs.Prefix.{bytesOrder}
 use Rattle.key.specs.Theorem.{Bytes, Keyed, AllKeyed, none, more, normalFields}
 use Rattle.key.proofs.Passing.{mapped-gives}

@@ -13,11 +13,11 @@ use Rattle.float.specs.Order.{patternOf}
 use Rattle.float.proofs.Language.{times-none, none-pattern}
 use Rattle.value.specs.declared.Kind.{Kind}
 use Rattle.value.specs.declared.Value.{Value}
-use Rattle.value.specs.Kinds.{Form, unsigned, signed, float, formOf, bitsFor, kindOf}
+use Rattle.value.specs.Kinds.{Form, unsigned, signed, float, formOf, bitsFor, kindOf, bytesOf}
 use Rattle.value.specs.Meaning.{Content, natural, integer, real, contentOf, twosOf, floatBits, bitsOf, stepOf, exactIn, exactOf}
 use Rattle.value.specs.Meaning as value
 use Rattle.key.specs.declared.Layout.{Layout}
-use Rattle.key.specs.Key.{shifted, floatKey, patternFrom, keyIn, keyNumber, bytesOf, bitsFrom, notCanonical}
+use Rattle.key.specs.Key.{shifted, floatKey, patternFrom, keyIn, keyNumber, bitsFrom, notCanonical}
 use Rattle.key.specs.Steps.{layoutFor, Room, numberIn, bitsIn, absIn, nanIn, foreignIn}
 use Rattle.key.proofs.Ranges.{Ranged, Sized, kind-sized, formIn, content-form, twice-half, bits-range}
 

@@ -15,7 +15,7 @@ use Rattle.value.proofs.Outcomes.{refuse-passes}
 use Rattle.value.specs.declared.Kind.{Kind}
 use Rattle.value.specs.declared.Value.{Value}
 use Rattle.value.specs.declared.Value.the-variants.{U8}
-use Rattle.value.specs.Kinds.{formOf}
+use Rattle.value.specs.Kinds.{formOf, bytesOf}
 use Rattle.value.specs.Meaning.{valueOf}
 use Rattle.value.specs.Outcome.{Outcome, gives, refuses, refuseIf, mapped}
 use Rattle.record.specs.declared.Field.{Field}
@@ -27,7 +27,7 @@ use Rattle.record.specs.Record.{fieldFor, blank, badCount, kindsIn, recordOf, r
 use Rattle.record.proofs.Deciding.{good-count}
 use Rattle.record.proofs.Shape as shape-type
 use Rattle.key.specs.declared.Layout.{Layout}
-use Rattle.key.specs.Key.{bytesOf, numberFrom, bitsFrom, notCanonical, bytesIn, readFields, readOf}
+use Rattle.key.specs.Key.{numberFrom, bitsFrom, notCanonical, bytesIn, readFields, readOf}
 use Rattle.key.specs.Steps.{layoutFor, bitsIn, foreignIn}
 use Rattle.key.proofs.Passing.{mapped-gives}
 use Rattle.key.proofs.Ranges.{kind-sized}
@@ -130,11 +130,11 @@ module _ (s : Shape) (few : s .count ≤ 12) (twelve : length (s .places) ≡ 12
   unfolding bytesIn
   sum-none = (omega arith, refl, omega arith)
 
-  pub sum-step : (n at : ℕ) (d : Place) → at < s .count → {w : ℕ} → (w ≡ bytesOf (getD (s .places) at d .kind)) × (w ≤ 8) → Summed s n at → Summed s (n + w) (at + 1)
+  pub sum-step : (n at : ℕ) (d : Place) → at < s .count → {w : ℕ} → (w ≡ bytesOf (getD (s .places) at d .kind)) × (0 < w) × (w ≤ 8) → Summed s n at → Summed s (n + w) (at + 1)
   sum-step n at d h q c =
       let next : bytesIn (take (suc at) ks) ≡ bytesIn (take at ks) + bytesOf (getD (s .places) at d .kind) =
       ap bytesIn (kinds-passed at d h) ∙ bytes-snoc (take at ks) (getD (s .places) at d .kind) in
-      rw (add-one at) (omega arith, omega (arith, next, q .0, c .1), omega (arith, q .1, c .2))
+      rw (add-one at) (omega arith, omega (arith, next, q .0, c .1), omega (arith, q .2, c .2))
 
   pub sum-end : (n at : ℕ) → s .count ≤ at → Summed s n at → n ≡ bytesIn ks
   sum-end n at h c = c .1 ∙ ap bytesIn (take-all at ks (omega (arith, count-kinds)))
@@ -142,7 +142,7 @@ module _ (s : Shape) (few : s .count ≤ 12) (twelve : length (s .places) ≡ 12
   -- ---- the fields
 
   module _ (key : List ℕ) (r : Record) (from at : ℕ) (filled : Filled s key r from at) where
-    module _ (d : Place) (h : at < s .count) {w : ℕ} (w-is : (w ≡ bytesOf (getD (s .places) at d .kind)) × (w ≤ 8)) where
+    module _ (d : Place) (h : at < s .count) {w : ℕ} (w-is : (w ≡ bytesOf (getD (s .places) at d .kind)) × (0 < w) × (w ≤ 8)) where
       abbrev k : Kind
       k = getD (s .places) at d .kind
 
@@ -151,7 +151,7 @@ module _ (s : Shape) (few : s .count ≤ 12) (twelve : length (s .places) ≡ 12
       bytes-left = rw (kinds-left at d h)
 
       pub read-room : (w ≤ 8) × (from + w ≤ length key)
-      read-room = (w-is .1, omega (arith, bytes-left, filled .1, w-is .0))
+      read-room = (w-is .2, omega (arith, bytes-left, filled .1, w-is .0))
 
       module _ {n : ℕ} (n-is : n ≡ numberFrom 0 (take w (drop from key))) {l : Layout} (l-is : l ≡ layoutFor (formOf k)) {b : ℕ} (b-is : b ≡ bitsIn l n) {t : Bool} (t-is : t ≡ foreignIn l b) where
         own-bits : b ≡ bitsFrom (formOf k) n
@@ -180,7 +180,7 @@ module _ (s : Shape) (few : s .count ≤ 12) (twelve : length (s .places) ≡ 12
               omega (arith, bytes-left, filled .1, w-is .0),
               length-set (r .fields) at (fieldFor (valueOf k b)) ∙ filled .2,
               finish-field r at (valueOf k b) rest (omega (arith, filled .2)) ∙ sym (ap (finishedAt at r) more) ∙ filled .3,
-              omega (arith, filled .4, w-is .1),
+              omega (arith, filled .4, w-is .2),
               few,
             )
 

@@ -13,7 +13,7 @@ use lib.Seq.{take-suc, take-all, drop-cons, getD-take, length-take-le}
 use Rattle.float.specs.Number.{isNone}
 use Rattle.value.specs.declared.Kind.{Kind}
 use Rattle.value.specs.declared.Value.{Value}
-use Rattle.value.specs.Kinds.{kindOf}
+use Rattle.value.specs.Kinds.{kindOf, bytesOf}
 use Rattle.value.specs.Meaning.{exactOf}
 use Rattle.value.specs.Outcome.{gives, refuses, refuseIf}
 use Rattle.record.specs.declared.Field.{Field}
@@ -22,7 +22,7 @@ use Rattle.record.specs.Record.{fieldsOf, badCount}
 use Rattle.record.proofs.Record as record-type
 use Rattle.key.specs.declared.Written.{Written}
 use Rattle.key.specs.declared.Written.the-variants as written
-use Rattle.key.specs.Key.{keyNumber, bytesOf, bigEndian, fieldKey, keyOf, nanThen, writtenOutcome, writeOf, writeExit}
+use Rattle.key.specs.Key.{keyNumber, bigEndian, fieldKey, keyOf, nanThen, writtenOutcome, writeOf, writeExit}
 use Rattle.key.specs.Steps.{put, FirstNan}
 use Rattle.key.proofs.Bytes.{length-big}
 use Rattle.key.proofs.NumberBytes.{length-put, put-nil, put-put}
@@ -98,10 +98,10 @@ module _ (r : Record) (few : r .count ≤ 12) (twelve : length (r .fields) ≡ 1
   unfolding keyOf
   count-none = (omega arith, refl, omega arith)
 
-  pub count-step : (n at : ℕ) (d : Field) → at < r .count → {k : Kind} → k ≡ kindOf (getD (r .fields) at d .value) → {w : ℕ} → (w ≡ bytesOf k) × (w ≤ 8) → Counted r n at → Counted r (n + w) (at + 1)
+  pub count-step : (n at : ℕ) (d : Field) → at < r .count → {k : Kind} → k ≡ kindOf (getD (r .fields) at d .value) → {w : ℕ} → (w ≡ bytesOf k) × (0 < w) × (w ≤ 8) → Counted r n at → Counted r (n + w) (at + 1)
   count-step n at d h e {w} q c =
       let b : w ≡ bytesOf (kindOf (getD (r .fields) at d .value)) = q .0 ∙ ap bytesOf e in
-      (omega arith, omega (arith, bytes-next at d h, b, c .1), omega (arith, q .1, c .2))
+      (omega arith, omega (arith, bytes-next at d h, b, c .1), omega (arith, q .2, c .2))
 
   pub count-end : (n at : ℕ) → r .count ≤ at → Counted r n at → n ≡ length (keyOf fs)
   count-end n at h c = c .1 ∙ ap (λ (l : List Field). length (keyOf l)) (all-fields at h)
@@ -143,7 +143,7 @@ module _ (r : Record) (few : r .count ≤ 12) (twelve : length (r .fields) ≡ 1
         ∙ ap (λ (l : List ℕ). put 0 l old) (sym (key-next at d h))
 
     module _ (now : List ℕ) (to at : ℕ) (laid : Laid r old now to at) where
-      module _ (d : Field) (h : at < r .count) {k : Kind} (k-is : k ≡ kindOf (getD (r .fields) at d .value)) {w : ℕ} (w-is : (w ≡ bytesOf k) × (w ≤ 8)) where
+      module _ (d : Field) (h : at < r .count) {k : Kind} (k-is : k ≡ kindOf (getD (r .fields) at d .value)) {w : ℕ} (w-is : (w ≡ bytesOf k) × (0 < w) × (w ≤ 8)) where
         own-width : w ≡ bytesOf (kindOf (getD (r .fields) at d .value))
         own-width = w-is .0 ∙ ap bytesOf k-is
 
@@ -156,7 +156,7 @@ module _ (r : Record) (few : r .count ≤ 12) (twelve : length (r .fields) ≡ 1
           omega (arith, laid .1, own-width, bytes-next at d h),
           z ∙ rw (e, own-width, laid .1, laid .2) (lay-next at d h),
           ap length z ∙ length-put to (bigEndian w n) now (rw (length-big w n) laid-room) ∙ laid .3,
-          omega (arith, laid .4, w-is .1),
+          omega (arith, laid .4, w-is .2),
         )
 
       pub laid-end : r .count ≤ at → now ≡ put 0 (keyOf fs) old

@@ -9,7 +9,7 @@ use Rattle.float.specs.Format.{fractionOf, exponentOf, signOf, nanOf}
 use Rattle.float.specs.Number.{isNone}
 use Rattle.value.specs.declared.Kind.{Kind}
 use Rattle.value.specs.declared.Value.{Value}
-use Rattle.value.specs.Kinds.{Form, unsigned, signed, float, formOf, kindOf, widthOf}
+use Rattle.value.specs.Kinds.{Form, unsigned, signed, float, formOf, kindOf, bytesOf}
 use Rattle.value.specs.Meaning.{Content, natural, integer, real, contentOf, exactOf, floatBits, valueOf}
 use Rattle.value.specs.Outcome.{Outcome, gives, refuses, refuseIf, refusalOf, mapped}
 use Rattle.record.specs.declared.Field.{Field}
@@ -42,10 +42,6 @@ abbrev pub keyNumber : Value → ℕ
 keyNumber v = keyIn (contentOf v)
 
 -- ---- bytes
-
--- how many bytes the key of a field has
-abbrev pub bytesOf : Kind → ℕ
-bytesOf k = widthOf k / 8
 
 -- the last k bytes of n, high byte first
 unfoldable pub bigEndian : ℕ → ℕ → List ℕ

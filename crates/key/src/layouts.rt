@@ -1,23 +1,12 @@
 // How the values of each kind stand in a key: how many bytes, and what is done to their bits. RULES.md: Keys.
 ghost use mathlib.Core.Path.{_≡_};
 ghost use Prim.Native.Nat.{_+_, _*_, _%_, _^_, _≤_, _<_};
-ghost use Rattle.value.specs.Kinds.{formOf};
-ghost use Rattle.key.specs.Key.{floatKey, patternFrom, keyNumber, bytesOf};
+ghost use Rattle.value.specs.Kinds.{formOf, bytesOf};
+ghost use Rattle.key.specs.Key.{floatKey, patternFrom, keyNumber};
 ghost use Rattle.key.specs.Steps.{Room, layoutFor, absIn, bitsIn, nanIn, foreignIn};
 use crate::Layout;
 use value::Kind;
 use value::Value;
-
-pub(crate) fn bytes_of(k: Kind) -> usize
-    ensures { λ r. ⌜ (r ≡ bytesOf k) × (r ≤ 8) ⌝ }
-{
-    match k {
-        Kind::U8 | Kind::I8 => 1,
-        Kind::U16 | Kind::I16 => 2,
-        Kind::U32 | Kind::I32 | Kind::F32 => 4,
-        Kind::U64 | Kind::I64 | Kind::F64 => 8,
-    }
-}
 
 pub(crate) fn layout_of(k: Kind) -> Layout
     ensures { λ r. ⌜ r ≡ layoutFor (formOf k) ⌝ }

@@ -5,7 +5,6 @@ ghost use lib.ListN.{length, take, drop};
 ghost use Rattle.record.specs.Record.{kindsIn, recordedOf};
 ghost use Rattle.key.specs.Key.{bytesIn, numberFrom, readOf};
 use crate::layouts::bits_in;
-use crate::layouts::bytes_of;
 use crate::layouts::foreign_in;
 use crate::layouts::layout_of;
 use record::Field;
@@ -15,6 +14,7 @@ use record::Shape;
 use record::bad_count;
 use record::blank;
 use record::refused;
+use value::bytes_of;
 
 // How many bytes the keys of a shape have.
 fn shape_length(s: Shape) -> usize

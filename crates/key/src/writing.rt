@@ -8,7 +8,6 @@ ghost use Rattle.record.specs.Record.{fieldsOf};
 ghost use Rattle.key.specs.Key.{bigEndian, keyOf, writtenOutcome, writeOf, writeExit};
 ghost use Rattle.key.specs.Steps.{put, FirstNan};
 use crate::Written;
-use crate::layouts::bytes_of;
 use crate::layouts::layout_of;
 use crate::layouts::nan_in;
 use crate::layouts::number_of;
@@ -16,6 +15,7 @@ use record::Record;
 use record::bad_count;
 use value::Refusal;
 use value::Value;
+use value::bytes_of;
 
 fn key_length(r: Record) -> usize
     requires { ⌜ r .count ≤ 12 ⌝ }

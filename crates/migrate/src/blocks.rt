@@ -2,14 +2,14 @@
 ghost use Prim.Native.Nat.{_*_, _≤_, _<_};
 ghost use mathlib.Core.Path.{_≡_};
 ghost use lib.ListN.{length};
-ghost use Rattle.block.specs.Samples.{bytesOf};
+ghost use Rattle.value.specs.Kinds.{bytesOf};
 use crate::files::fill;
 use block::Progress;
 use block::convert_block;
-use block::sample_bytes;
 use block::start;
 use row::Rowed;
 use value::Kind;
+use value::bytes_of;
 
 // Room for 32768 samples of any kind.
 pub(crate) type Buffer = [u8; 262144];
@@ -110,7 +110,7 @@ pub(crate) fn read_block(input: i32, from: Kind, src: &mut [u8]) -> Block
     requires { ⌜ length (now src) ≡ 262144 ⌝ }
     ensures { λ r. ⌜ (r .bytes ≤ 32768 * bytesOf from) × (r .bytes ≤ 262144) ⌝ }
 {
-    let size = 32768 * sample_bytes(from);
+    let size = 32768 * bytes_of(from);
     let got = fill(input, &mut src[..size]);
     Block {
         bytes: got.bytes,
@@ -137,8 +137,8 @@ fn output_bytes(from: Kind, to: Kind, bytes: usize) -> usize
     requires { ⌜ bytes ≤ 32768 * bytesOf from ⌝ }
     ensures { λ r. ⌜ r ≤ 262144 ⌝ }
 {
-    let samples = bytes / sample_bytes(from);
-    samples * sample_bytes(to)
+    let samples = bytes / bytes_of(from);
+    samples * bytes_of(to)
 }
 
 // Writes what a block came to; after a refusal nothing more is written.

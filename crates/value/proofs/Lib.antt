@@ -1,4 +1,5 @@
 pub mod KindNumbers
+pub mod Widths
 pub mod TwosComplement
 pub mod FloatBits
 pub mod MadeValues

@@ -1,5 +1,5 @@
 -- The ten kinds: their list, their numbers, their forms. RULES.md: The ten kinds.
-use Prim.Native.Nat.{ℕ, zero, suc, _+_}
+use Prim.Native.Nat.{ℕ, zero, suc, _+_, _/_}
 use mathlib.Core.List.{List, [], _∷_}
 use lib.Ieee.{Format, binary32, binary64}
 use Rattle.float.specs.Format.{fractionOf, exponentOf}
@@ -72,3 +72,7 @@ bitsFor (float f) = suc (fractionOf f + exponentOf f)
 
 abbrev pub widthOf : Kind → ℕ
 widthOf k = bitsFor (formOf k)
+
+-- how many bytes a sample has
+abbrev pub bytesOf : Kind → ℕ
+bytesOf k = widthOf k / 8

@@ -1,7 +1,7 @@
 // Kinds, and their numbers 0 to 9. RULES.md: The ten kinds.
 ghost use mathlib.Core.Path.{_≡_};
-ghost use Prim.Native.Nat.{_+_, _<_};
-ghost use Rattle.value.specs.Kinds.{kindOf, kindNumber, kindAt};
+ghost use Prim.Native.Nat.{_+_, _≤_, _<_};
+ghost use Rattle.value.specs.Kinds.{kindOf, kindNumber, kindAt, bytesOf};
 use crate::Kind;
 use crate::KindFound;
 use crate::Value;
@@ -37,6 +37,24 @@ pub fn kind_number(k: Kind) -> u8
         Kind::I64 => 7,
         Kind::F32 => 8,
         Kind::F64 => 9,
+    }
+}
+
+// How many bytes a sample of the kind has.
+pub fn bytes_of(k: Kind) -> usize
+    ensures { λ r. ⌜ (r ≡ bytesOf k) × (0 < r) × (r ≤ 8) ⌝ }
+{
+    match k {
+        Kind::U8 => 1,
+        Kind::U16 => 2,
+        Kind::U32 => 4,
+        Kind::U64 => 8,
+        Kind::I8 => 1,
+        Kind::I16 => 2,
+        Kind::I32 => 4,
+        Kind::I64 => 8,
+        Kind::F32 => 4,
+        Kind::F64 => 8,
     }
 }
 

@@ -3,6 +3,7 @@
 mod kinds;
 mod patterns;
 
+pub use kinds::bytes_of;
 pub use kinds::kind_number;
 pub use kinds::kind_of;
 pub use kinds::kind_of_number;

@@ -6,7 +6,8 @@ use native.Mathlib.Omega.{arith}
 use lib.ListN.{length, take}
 use lib.Seq.{take-all}
 use Rattle.value.specs.declared.Value.the-variants.{U8}
-use Rattle.block.specs.Samples.{bytesOf, samplesIn}
+use Rattle.value.specs.Kinds.{bytesOf}
+use Rattle.block.specs.Samples.{samplesIn}
 use Rattle.block.specs.Report.{allNoted}
 use Rattle.block.proofs.Samplings.{place-inside, next-place, length-samples, sample-is}
 use Rattle.block.proofs.Looking.{noted-none, noted-more}
@@ -38,7 +39,7 @@ add-at : tie.Need-add-at Inv-loop μ-loop
 add-at c =
     let turn = c .before .before in
     let h = inside turn in
-    let q = turn .before .before .sample-bytes .ensures .0 in
+    let q = turn .before .before .bytes-of .ensures .0 in
     record { fits = omega (arith, h, q) }
 
 loop-again : tie.Need-loop-again Inv-loop μ-loop
@@ -49,7 +50,7 @@ loop-again c =
     let a = b .before .before .before .args in
     let own = sample-is (a .from) (a .n) (a .src .now) (b .loop .i) (U8 0) (turn .loop-test .taken) (b .loop .inv .0) (sampled .sample-at .ensures) in
     let below : b .loop .i < length (samplesIn (a .from) (a .n) (a .src .now)) = omega (arith, length-samples (a .from) (a .n) (a .src .now), turn .loop-test .taken) in (
-      next-place (b .loop .i) (bytesOf (a .from)) (b .loop .inv .0) (b .before .sample-bytes .ensures .0),
+      next-place (b .loop .i) (bytesOf (a .from)) (b .loop .inv .0) (b .before .bytes-of .ensures .0),
       c .noted .ensures ∙ noted-more (a .to) (a .s) (samplesIn (a .from) (a .n) (a .src .now)) (b .loop .i) (U8 0) below own (b .loop .inv .1),
     )
 

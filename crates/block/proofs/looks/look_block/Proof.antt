@@ -13,7 +13,7 @@ use Rattle.block.proofs.looks.look_block.Tie as tie
 all-noted-requires : tie.Need-all-noted-requires
 all-noted-requires c κs =
     let a = c .before .before .args in
-    count-inside (a .from) (a .src .now) (ap (λ (w : ℕ). length (a .src .now) / w) (c .sample-bytes .ensures .0))
+    count-inside (a .from) (a .src .now) (ap (λ (w : ℕ). length (a .src .now) / w) (c .bytes-of .ensures .0))
 
 returns : tie.Need-returns
 returns c =
@@ -21,7 +21,7 @@ returns c =
     let all = then .before in
     let asked = all .before in
     let a = asked .before .before .args in
-    let w = asked .sample-bytes .ensures .0 in
+    let w = asked .bytes-of .ensures .0 in
     c .left-noted .ensures
     ∙ ap leftNoted (all .all-noted .ensures ∙ ap (λ (u : ℕ). allNoted (a .to) (a .s) (samplesIn (a .from) (length (a .src .now) / u) (a .src .now))) w)
     ∙ look-left (a .from) (a .to) (a .s) (a .src .now) (λ q. then .if1 .taken (ap (λ (u : ℕ). length (a .src .now) % u) w ∙ q))
@@ -31,7 +31,7 @@ returns-2 c =
     let all = c .before in
     let asked = all .before in
     let a = asked .before .before .args in
-    let w = asked .sample-bytes .ensures .0 in
+    let w = asked .bytes-of .ensures .0 in
     all .all-noted .ensures
     ∙ ap (λ (u : ℕ). allNoted (a .to) (a .s) (samplesIn (a .from) (length (a .src .now) / u) (a .src .now))) w
     ∙ look-whole (a .from) (a .to) (a .s) (a .src .now) (sym (ap (λ (u : ℕ). length (a .src .now) % u) w) ∙ c .if1 .left)

@@ -6,7 +6,8 @@ use native.Mathlib.Omega.{arith}
 use lib.ListN.{length, getD}
 use Rattle.value.specs.declared.Value.the-variants.{U8}
 use Rattle.row.proofs.Scan.{Reached, reach-step, reach-stop, reach-end, reach-start}
-use Rattle.block.specs.Samples.{bytesOf, samplesIn}
+use Rattle.value.specs.Kinds.{bytesOf}
+use Rattle.block.specs.Samples.{samplesIn}
 use Rattle.block.specs.Steps.{refusedTo}
 use Rattle.block.proofs.Samplings.{place-inside, next-place, length-samples, sample-is}
 use borrow.Author.Needs.{needs}
@@ -62,7 +63,7 @@ add-at : tie.Need-add-at Inv-loop μ-loop
 add-at c =
     let turn = c .before .before .before in
     let h = inside turn in
-    let q = turn .before .before .sample-bytes .ensures .0 in
+    let q = turn .before .before .bytes-of .ensures .0 in
     record { fits = omega (arith, h, q) }
 
 loop-again : tie.Need-loop-again Inv-loop μ-loop
@@ -70,7 +71,7 @@ loop-again c =
     let turn = c .before .before .before in
     let b = turn .before in
     let a = b .before .before .before .args in (
-      next-place (b .loop .i) (bytesOf (a .from)) (b .loop .inv .0) (b .before .sample-bytes .ensures .0),
+      next-place (b .loop .i) (bytesOf (a .from)) (b .loop .inv .0) (b .before .bytes-of .ensures .0),
       reach-step (refusedTo (a .to)) 0 (samplesIn (a .from) (a .n) (a .src .now)) (b .loop .i) (U8 0) (below turn) (b .loop .inv .1) (tested (c .before) ∙ c .if1 .left),
     )
 

@@ -5,7 +5,8 @@ use native.Mathlib.Nat.{zero-mul, zero-add}
 use native.Mathlib.Omega.{arith}
 use lib.ListN.{length}
 use Rattle.value.specs.declared.Value.the-variants.{U8}
-use Rattle.block.specs.Samples.{bytesOf, samplesIn}
+use Rattle.value.specs.Kinds.{bytesOf}
+use Rattle.block.specs.Samples.{samplesIn}
 use Rattle.block.specs.Steps.{bitsFor}
 use Rattle.block.proofs.Samplings.{place-inside, next-place, length-samples, sample-is, Filled, fill-none, fill-step, fill-end}
 use borrow.Author.Needs.{needs}
@@ -32,12 +33,12 @@ read-inside c =
     let a = s .args in
     place-inside (b .loop .i) (a .n) (bytesOf (a .from)) (length (a .src .now)) (c .loop-test .taken) (s .pre .0) (b .loop .inv .1) refl refl
 
-write-inside : (c : tie.In-loop Inv-loop μ-loop) → (let b = c .before in b .loop .place + b .before .sample-bytes2 .result ≤ length (b .loop .dst))
+write-inside : (c : tie.In-loop Inv-loop μ-loop) → (let b = c .before in b .loop .place + b .before .bytes-of2 .result ≤ length (b .loop .dst))
 write-inside c =
     let b = c .before in
     let s = b .before .before .before .before .before in
     let a = s .args in
-    place-inside (b .loop .i) (a .n) (bytesOf (a .to)) (length (a .dst .now)) (c .loop-test .taken) (s .pre .1) (b .loop .inv .2) (b .before .sample-bytes2 .ensures .0) (b .loop .inv .3 .0)
+    place-inside (b .loop .i) (a .n) (bytesOf (a .to)) (length (a .dst .now)) (c .loop-test .taken) (s .pre .1) (b .loop .inv .2) (b .before .bytes-of2 .ensures .0) (b .loop .inv .3 .0)
 
 sample-at-requires : tie.Need-sample-at-requires Inv-loop μ-loop
 sample-at-requires c κs = read-inside (c .before)
@@ -49,7 +50,7 @@ add-at : tie.Need-add-at Inv-loop μ-loop
 add-at c =
     let turn = c .before .before .before .before .before .before in
     let h = read-inside turn in
-    let q = turn .before .before .before .sample-bytes .ensures .0 in
+    let q = turn .before .before .before .bytes-of .ensures .0 in
     record { fits = omega (arith, h, q) }
 
 add-place : tie.Need-add-place Inv-loop μ-loop
@@ -69,9 +70,9 @@ loop-again c =
     let below : b .loop .i < length s = omega (arith, length-samples (a .from) (a .n) (a .src .now), turn .loop-test .taken) in
     let own = sample-is (a .from) (a .n) (a .src .now) (b .loop .i) (U8 0) (turn .loop-test .taken) (b .loop .inv .1) (made .before .sample-at .ensures) in (
       omega (arith, turn .loop-test .taken),
-      next-place (b .loop .i) (bytesOf (a .from)) (b .loop .inv .1) (b .before .before .sample-bytes .ensures .0),
-      next-place (b .loop .i) (bytesOf (a .to)) (b .loop .inv .2) (b .before .sample-bytes2 .ensures .0),
-      fill-step (a .to) (bitsFor (a .to)) s (a .dst .now) 0 (b .loop .i) (U8 0) below own (made .bits-to .ensures) (b .loop .dst) (b .loop .place) (b .before .sample-bytes2 .result) (b .loop .inv .2 ∙ sym (zero-add (b .loop .i * bytesOf (a .to)))) (b .before .sample-bytes2 .ensures .0) (b .loop .inv .3) (stored .store .ensures),
+      next-place (b .loop .i) (bytesOf (a .from)) (b .loop .inv .1) (b .before .before .bytes-of .ensures .0),
+      next-place (b .loop .i) (bytesOf (a .to)) (b .loop .inv .2) (b .before .bytes-of2 .ensures .0),
+      fill-step (a .to) (bitsFor (a .to)) s (a .dst .now) 0 (b .loop .i) (U8 0) below own (made .bits-to .ensures) (b .loop .dst) (b .loop .place) (b .before .bytes-of2 .result) (b .loop .inv .2 ∙ sym (zero-add (b .loop .i * bytesOf (a .to)))) (b .before .bytes-of2 .ensures .0) (b .loop .inv .3) (stored .store .ensures),
     )
 
 returns : tie.Need-returns Inv-loop μ-loop

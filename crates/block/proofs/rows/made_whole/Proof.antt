@@ -1,10 +1,9 @@
 -- The row has a place for each sample.
-use mathlib.Core.Path.{sym, _∙_}
+use mathlib.Core.Path.{sym, _∙_, subst}
 use Prim.Native.Nat.{ℕ, _/_, _≤_}
-use mathlib.Core.Path.{subst}
 use lib.ListN.{length, replicate, length-replicate}
 use Rattle.value.specs.declared.Kind.the-variants as kind
-use Rattle.block.specs.Samples.{bytesOf}
+use Rattle.value.specs.Kinds.{bytesOf}
 use lib.Ieee.{Float, binary32, ofBits}
 use borrow.Author.Needs.{needs}
 use lib.Seq.{length-take-le}

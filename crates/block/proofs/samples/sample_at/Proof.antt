@@ -13,7 +13,7 @@ returns c =
     let loaded = c .before in
     let asked = loaded .before in
     let a = asked .before .before .args in
-    c .value-of .ensures ∙ ap (valueOf (a .k)) (loaded .load .ensures ∙ ap (λ (w : ℕ). numberFrom (take w (drop (a .at) (a .src .now)))) (asked .sample-bytes .ensures .0))
+    c .value-of .ensures ∙ ap (valueOf (a .k)) (loaded .load .ensures ∙ ap (λ (w : ℕ). numberFrom (take w (drop (a .at) (a .src .now)))) (asked .bytes-of .ensures .0))
 
 pub sample-at-spec : {M : Type 1} → statement M
 sample-at-spec = tie.close (tie.spec (λ c κs. search needs) (λ c κs. search needs) (λ c κs. search needs) returns)

@@ -3,7 +3,8 @@ use mathlib.Core.Path.{_≡_, _∙_, ap}
 use Prim.Native.Nat.{ℕ, _/_, _≤_}
 use lib.ListN.{length}
 use Rattle.row.specs.Row.{rowedOutcome}
-use Rattle.block.specs.Samples.{bytesOf, countOf}
+use Rattle.value.specs.Kinds.{bytesOf}
+use Rattle.block.specs.Samples.{countOf}
 use Rattle.block.proofs.Blocks.{block-short, shorter, enough}
 use borrow.Author.Needs.{needs}
 use Rattle.block.proofs.steps.block.Statement.{statement}
@@ -15,19 +16,19 @@ returns c =
     let second = then .before in
     let first = second .before in
     let a = first .before .before .before .args in
-    let r = block-short (a .from) (a .to) (a .src .now) (a .dst .now) (shorter (length (a .dst .now)) (length (a .src .now)) (first .sample-bytes .ensures .0) (second .sample-bytes2 .ensures .0) (then .if1 .taken)) in
+    let r = block-short (a .from) (a .to) (a .src .now) (a .dst .now) (shorter (length (a .dst .now)) (length (a .src .now)) (first .bytes-of .ensures .0) (second .bytes-of2 .ensures .0) (then .if1 .taken)) in
     (ap rowedOutcome (c .refused .ensures) ∙ r .0, r .1)
 
 -- what the samples ask for: their number, and room for them
 asked : (c : tie.Else1)
     → (let first = c .before .before in
     let a = first .before .before .before .args in
-    (length (a .src .now) / first .sample-bytes .result ≡ countOf (a .from) (a .src .now)) × (length (a .src .now) / first .sample-bytes .result ≤ length (a .dst .now) / bytesOf (a .to)))
+    (length (a .src .now) / first .bytes-of .result ≡ countOf (a .from) (a .src .now)) × (length (a .src .now) / first .bytes-of .result ≤ length (a .dst .now) / bytesOf (a .to)))
 asked c =
     let second = c .before in
     let first = second .before in
     let a = first .before .before .before .args in
-    (ap (λ (w : ℕ). length (a .src .now) / w) (first .sample-bytes .ensures .0), enough (length (a .dst .now)) (length (a .src .now) / first .sample-bytes .result) (second .sample-bytes2 .ensures .0) (c .if1 .left))
+    (ap (λ (w : ℕ). length (a .src .now) / w) (first .bytes-of .ensures .0), enough (length (a .dst .now)) (length (a .src .now) / first .bytes-of .result) (second .bytes-of2 .ensures .0) (c .if1 .left))
 
 one-by-one-requires : tie.Need-one-by-one-requires
 one-by-one-requires c κs = asked (c .before .before)

@@ -15,8 +15,8 @@ returns c =
     let counted = then .before in
     let asked = counted .before in
     let a = asked .before .before .before .args in
-    let n = step-count (a .from) (a .to) (a .s .samples) (rowedOutcome (a .s .answer)) (a .src .now) (a .dst .now) (asked .sample-bytes .ensures .0) (counted .wrapping-add-usize .ensures) in
-    let r = step-left (a .from) (a .to) (a .s .samples) (rowedOutcome (a .s .answer)) (a .src .now) (a .dst .now) (λ q. then .if1 .taken (ap (λ (w : ℕ). length (a .src .now) % w) (asked .sample-bytes .ensures .0) ∙ q)) in
+    let n = step-count (a .from) (a .to) (a .s .samples) (rowedOutcome (a .s .answer)) (a .src .now) (a .dst .now) (asked .bytes-of .ensures .0) (counted .wrapping-add-usize .ensures) in
+    let r = step-left (a .from) (a .to) (a .s .samples) (rowedOutcome (a .s .answer)) (a .src .now) (a .dst .now) (λ q. then .if1 .taken (ap (λ (w : ℕ). length (a .src .now) % w) (asked .bytes-of .ensures .0) ∙ q)) in
     (n, (ap rowedOutcome (c .refused .ensures) ∙ ap (λ (p : ℕ). refuses 9 p) n ∙ r .0, r .1))
 
 returns-2 : tie.Need-returns-2
@@ -27,8 +27,8 @@ returns-2 c =
     let counted = passed .before in
     let asked = counted .before in
     let a = asked .before .before .before .args in
-    let none = sym (ap (λ (w : ℕ). length (a .src .now) % w) (asked .sample-bytes .ensures .0)) ∙ passed .if1 .left in (
-      step-count (a .from) (a .to) (a .s .samples) (rowedOutcome (a .s .answer)) (a .src .now) (a .dst .now) (asked .sample-bytes .ensures .0) (counted .wrapping-add-usize .ensures),
+    let none = sym (ap (λ (w : ℕ). length (a .src .now) % w) (asked .bytes-of .ensures .0)) ∙ passed .if1 .left in (
+      step-count (a .from) (a .to) (a .s .samples) (rowedOutcome (a .s .answer)) (a .src .now) (a .dst .now) (asked .bytes-of .ensures .0) (counted .wrapping-add-usize .ensures),
       step-block (a .from) (a .to) (a .s .samples) (rowedOutcome (a .s .answer)) (a .src .now) (a .dst .now) none (ap rowedOutcome (told .enum-told .given .1)) (blocked .block .ensures) (c .placed .ensures),
     )
 
@@ -38,8 +38,8 @@ returns-3 c =
     let counted = passed .before in
     let asked = counted .before in
     let a = asked .before .before .before .args in
-    let none = sym (ap (λ (w : ℕ). length (a .src .now) % w) (asked .sample-bytes .ensures .0)) ∙ passed .if1 .left in (
-      step-count (a .from) (a .to) (a .s .samples) (rowedOutcome (a .s .answer)) (a .src .now) (a .dst .now) (asked .sample-bytes .ensures .0) (counted .wrapping-add-usize .ensures),
+    let none = sym (ap (λ (w : ℕ). length (a .src .now) % w) (asked .bytes-of .ensures .0)) ∙ passed .if1 .left in (
+      step-count (a .from) (a .to) (a .s .samples) (rowedOutcome (a .s .answer)) (a .src .now) (a .dst .now) (asked .bytes-of .ensures .0) (counted .wrapping-add-usize .ensures),
       step-stays (a .from) (a .to) (a .s .samples) (rowedOutcome (a .s .answer)) (a .src .now) (a .dst .now) none (ap rowedOutcome (c .enum-told2 .given .1)),
     )
 

@@ -8,7 +8,8 @@ use lib.Seq.{sets}
 use Rattle.value.specs.declared.Value.{Value}
 use Rattle.value.specs.declared.Value.the-variants.{U8}
 use Rattle.row.specs.Row.{rowedOutcome, first}
-use Rattle.block.specs.Samples.{bytesOf, samplesIn, bytesFor}
+use Rattle.value.specs.Kinds.{bytesOf}
+use Rattle.block.specs.Samples.{samplesIn, bytesFor}
 use Rattle.block.specs.Migrate.{bitsTo}
 use Rattle.block.specs.Steps.{numberIn, refusedTo, bitsFor}
 use Rattle.block.proofs.Samplings.{count-inside, room-inside, place-inside, sample-is}
@@ -21,15 +22,15 @@ first-refused-requires : tie.Need-first-refused-requires
 first-refused-requires c κs = let s = c .before .before in count-inside (s .args .from) (s .args .src .now) (s .pre .0)
 
 -- the bytes of the sample that is refused are inside
-inside : (c : tie.After-sample-bytes)
+inside : (c : tie.After-bytes-of)
     → (let found = c .before .before in
     let s = found .before .before .before in
-    found .first-refused .result * c .sample-bytes .result + bytesOf (s .args .from) ≤ length (s .args .src .now))
+    found .first-refused .result * c .bytes-of .result + bytesOf (s .args .from) ≤ length (s .args .src .now))
 inside c =
     let found = c .before .before in
     let s = found .before .before .before in
     place-inside (found .first-refused .result) (s .args .n) (bytesOf (s .args .from)) (length (s .args .src .now)) (c .before .if1 .taken) (count-inside (s .args .from) (s .args .src .now) (s .pre .0))
-    (ap (λ (w : ℕ). found .first-refused .result * w) (c .sample-bytes .ensures .0)) refl refl
+    (ap (λ (w : ℕ). found .first-refused .result * w) (c .bytes-of .ensures .0)) refl refl
 
 mul-sample-at : tie.Need-mul-sample-at
 mul-sample-at c = record { fits = omega (arith, inside c) }
@@ -45,7 +46,7 @@ returns c =
     let found = asked .before .before in
     let s = found .before .before .before in
     let a = s .args in
-    let place = ap (λ (w : ℕ). found .first-refused .result * w) (asked .sample-bytes .ensures .0) in
+    let place = ap (λ (w : ℕ). found .first-refused .result * w) (asked .bytes-of .ensures .0) in
     let own = sample-is (a .from) (a .n) (a .src .now) (found .first-refused .result) (U8 0) (asked .before .if1 .taken) place (sampled .sample-at .ensures) in
     let number = numbered .number-of .ensures ∙ ap (λ (v : Value). numberIn (bitsTo (a .to) v)) (sym own) ∙ ap (λ (n : ℕ). numberIn (bitsTo (a .to) (getD (samplesIn (a .from) n (a .src .now)) (found .first-refused .result) (U8 0)))) (s .pre .0) in
     let r = block-bad (a .from) (a .to) (a .src .now) (a .dst .now) (rw (← s .pre .0) (s .pre .1)) (found .first-refused .result) (found .first-refused .ensures ∙ ap (λ (n : ℕ). first (refusedTo (a .to)) (samplesIn (a .from) n (a .src .now))) (s .pre .0)) (rw (← s .pre .0) (asked .before .if1 .taken)) number in

@@ -6,10 +6,10 @@ use borrow.Author.Needs.{needs}
 use Rattle.migrate.proofs.blocks.output_bytes.Statement.{statement}
 use Rattle.migrate.proofs.blocks.output_bytes.Tie as tie
 
-room : (c : tie.After-sample-bytes2) → c .before .before .args .bytes / c .before .sample-bytes .result * c .sample-bytes2 .result ≤ 262144
+room : (c : tie.After-bytes-of2) → c .before .before .args .bytes / c .before .bytes-of .result * c .bytes-of2 .result ≤ 262144
 room c =
     let from = c .before in
-    output-room (from .before .args .bytes) (from .sample-bytes .result) (c .sample-bytes2 .result) (from .sample-bytes .ensures .1) (omega (arith, from .before .pre, from .sample-bytes .ensures .0)) (c .sample-bytes2 .ensures .2)
+    output-room (from .before .args .bytes) (from .bytes-of .result) (c .bytes-of2 .result) (from .bytes-of .ensures .1) (omega (arith, from .before .pre, from .bytes-of .ensures .0)) (c .bytes-of2 .ensures .2)
 
 pub output-bytes-spec : {M : Type 1} → statement M
 output-bytes-spec = tie.close (tie.spec (λ c κs. search needs) (λ c. search needs) (λ c κs. search needs) (λ c. record { fits = omega (arith, room c) }) room)

@@ -13,9 +13,9 @@ returns : tie.Need-returns
 returns c =
     let filled = c .before .before .before in
     let asked = filled .before .before in
-    let w = asked .sample-bytes .result in
+    let w = asked .bytes-of .result in
     let few = le-trans {k = 32768 * w} (filled .fill .ensures) (part-length (32768 * w) (asked .before .before .args .src .now)) in
-    (omega (arith, few, asked .sample-bytes .ensures .0), omega (arith, few, asked .sample-bytes .ensures .2))
+    (omega (arith, few, asked .bytes-of .ensures .0), omega (arith, few, asked .bytes-of .ensures .2))
 
 pub read-block-spec : {M : Type 1} → statement M
 read-block-spec =

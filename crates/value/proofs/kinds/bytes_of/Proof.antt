@@ -1,8 +1,8 @@
 -- Each arm is the width of its kind.
 use borrow.Author.Needs.{needs}
-use Rattle.block.proofs.Samplings.{bytes-known}
-use Rattle.block.proofs.samples.sample_bytes.Statement.{statement}
-use Rattle.block.proofs.samples.sample_bytes.Tie as tie
+use Rattle.value.proofs.Widths.{bytes-known}
+use Rattle.value.proofs.kinds.bytes_of.Statement.{statement}
+use Rattle.value.proofs.kinds.bytes_of.Tie as tie
 
 returns : tie.Need-returns
 returns c = bytes-known (c .enum-told .given .1)
@@ -34,8 +34,8 @@ returns-9 c = bytes-known (c .enum-told9 .given .1)
 returns-10 : tie.Need-returns-10
 returns-10 c = bytes-known (c .enum-told10 .given .1)
 
-pub sample-bytes-spec : {M : Type 1} → statement M
-sample-bytes-spec =
+pub bytes-of-spec : {M : Type 1} → statement M
+bytes-of-spec =
     tie.close
     (tie.spec
     (λ c. search needs)
