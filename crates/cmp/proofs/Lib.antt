@@ -2,6 +2,7 @@ pub mod KindTests
 pub mod Numbers
 pub mod Answers
 pub mod Given
+pub mod Orders
 pub mod SameNumber
 pub mod Determined
 pub mod OrderKeys

@@ -9,7 +9,7 @@ use Rattle.value.specs.Outcome.{gives, refuses, andThen}
 use Rattle.cmp.specs.Compare.{compareOf}
 use Rattle.cmp.specs.Choose.{chosenBy, minOf, maxOf, clampedBy, clampOf}
 use Rattle.cmp.proofs.Choice.{min-chosen, max-chosen, clamp-clamped}
-use Rattle.laws_cmp.proofs.Comparison.{turned-order}
+use Rattle.cmp.proofs.Orders.{turned-order}
 
 -- ---- by the order of the first and the second: min_by and max_by over the fixed comparison
 

@@ -1,17 +1,12 @@
 -- The comparison of values is a partial order on all ten kinds at once: it goes by the number, and numbers are so ordered.
-use mathlib.Core.Path.{_≡_, refl, sym, _∙_, ap}
+use mathlib.Core.Path.{_≡_, refl, ap}
 use mathlib.Core.Bool.{true}
 use Rattle.float.specs.declared.Order.{Order}
 use Rattle.float.specs.declared.Order.the-variants.{Less, Equal, Greater, Unordered}
-use Rattle.float.specs.Order.{orderOf, isEqual}
-use Rattle.float.proofs.Turned.{turned, turn}
-use Rattle.float.proofs.Transitive.{less-trans}
-use Rattle.float.proofs.SameNumber.{equal-same}
-use Rattle.value.specs.declared.Value.{Value}
-use Rattle.value.specs.Meaning.{numberOf}
+use Rattle.float.specs.Order.{isEqual}
 use Rattle.value.specs.Outcome.{Outcome, gives, refuses, mapped}
 use Rattle.cmp.specs.Compare.{compareOf, eqOf}
-use Rattle.cmp.proofs.Given.{compared-order, order-compared}
+use Rattle.cmp.proofs.Orders.{turned-order, less-transitive, equal-transitive}
 use Rattle.laws_cmp.specs.Laws.{PartialOrder}
 
 -- ---- Equal and eq
@@ -28,25 +23,6 @@ is-equal Unordered h = cc
 pub tested-equal : (o : Outcome Order) → mapped isEqual o ≡ gives true → o ≡ gives Equal
 tested-equal (gives o) h = ap gives (is-equal o (cc))
 tested-equal (refuses n p) h = cc
-
--- ---- the order turned round
-
-pub turned-order : (x y : Value) (o : Order) → compareOf x y ≡ gives o → compareOf y x ≡ gives (turned o)
-turned-order x y o h =
-    let c = compared-order x y o h in
-    order-compared y x (turned o) (sym (c .0)) (turn (numberOf x) (numberOf y) ∙ ap turned (c .1))
-
-less-transitive : (x y z : Value) → compareOf x y ≡ gives Less → compareOf y z ≡ gives Less → compareOf x z ≡ gives Less
-less-transitive x y z h k =
-    let c = compared-order x y Less h in
-    let d = compared-order y z Less k in
-    order-compared x z Less (c .0 ∙ d .0) (less-trans (numberOf x) (numberOf y) (numberOf z) (c .1) (d .1))
-
-equal-transitive : (x y z : Value) → compareOf x y ≡ gives Equal → compareOf y z ≡ gives Equal → compareOf x z ≡ gives Equal
-equal-transitive x y z h k =
-    let c = compared-order x y Equal h in
-    let d = compared-order y z Equal k in
-    order-compared x z Equal (c .0 ∙ d .0) (ap (λ n. orderOf n (numberOf z)) (equal-same (numberOf x) (numberOf y) (c .1)) ∙ d .1)
 
 pub values-partial-order : PartialOrder compareOf eqOf
 values-partial-order = record {

@@ -26,7 +26,7 @@ use Rattle.cmp.specs.Compare.{compareOf, totalOf}
 use Rattle.cmp.proofs.Given.{compared-order, total-order, order-total}
 use Rattle.cmp.proofs.Numbers.{positions-order, patterns-order}
 use Rattle.laws_cmp.specs.Laws.{LinearOrder, Ordered, OneKind}
-use Rattle.laws_cmp.proofs.Comparison.{turned-order}
+use Rattle.cmp.proofs.Orders.{turned-order}
 
 -- ---- the order turned round, and transitive
 
