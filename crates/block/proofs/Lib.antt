@@ -7,4 +7,5 @@ pub mod Pairs
 pub mod Joining
 pub mod Whole
 pub mod Looking
+pub mod Best
 pub mod Looked

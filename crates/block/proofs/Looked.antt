@@ -15,6 +15,7 @@ use Rattle.float.proofs.Naturals.{lt-or-ge}
 use Rattle.value.specs.declared.Kind.{Kind}
 use Rattle.value.specs.declared.Value.{Value}
 use Rattle.value.specs.Outcome.{Outcome, gives, refuses, refuseIf, andThen, Success, done}
+use Rattle.cmp.specs.Compare.{ltOf, gtOf}
 use Rattle.row.specs.declared.Rowed.{Rowed}
 use Rattle.row.specs.declared.Rowed.the-variants as rowed
 use Rattle.row.specs.Row.{rowedOutcome, rowAnswer, sampleThen}
@@ -23,12 +24,13 @@ use Rattle.value.specs.Kinds.{bytesOf}
 use Rattle.block.specs.Samples.{countOf, leftOf, samplesOf}
 use Rattle.block.specs.Migrate.{bitsTo, answerOf, counted}
 use Rattle.block.specs.Steps.{refusedTo}
-use Rattle.block.specs.Report.{isNan, countIf, firstOf, notedOf, nothingSeen, allNoted, leftNoted, lookOf}
+use Rattle.block.specs.Report.{isNan, lowerOf, higherOf, countIf, firstOf, notedOf, nothingSeen, allNoted, leftNoted, lookOf}
 use Rattle.block.specs.Theorem.{joined}
-use Rattle.block.specs.ReportTheorem.{Parts, none, last, more, lookedAt, howMany, Tells, LooksDecide}
+use Rattle.block.specs.ReportTheorem.{Parts, none, last, more, lookedAt, howMany, Best, Tells, LooksDecide}
 use Rattle.block.proofs.Samplings.{length-samples}
 use Rattle.block.proofs.Joining.{left-joined, samples-of-joined}
 use Rattle.block.proofs.Whole.{small, no-samples}
+use Rattle.block.proofs.Best.{best-of, lower-strict, higher-strict}
 use Rattle.block.proofs.Looking.{noted-joined, noted-none, look-whole, look-left}
 
 -- ---- blocks joined
@@ -100,6 +102,14 @@ module _ (to : Kind) (s : Seen) (v : Value) where
   unfolding notedOf
   noted-refusable = refl
 
+  noted-lowest : notedOf to s v .lowest ≡ lowerOf (s .lowest) v
+  unfolding notedOf
+  noted-lowest = refl
+
+  noted-highest : notedOf to s v .highest ≡ higherOf (s .highest) v
+  unfolding notedOf
+  noted-highest = refl
+
   noted-answer : notedOf to s v .answer ≡ firstOf (s .answer) (s .samples) (bitsTo to v)
   unfolding notedOf
   noted-answer = refl
@@ -144,11 +154,19 @@ module _ (from to : Kind) (p : List ℕ) (short : length p < 2 ^ 64) where
   refusable : all .refusable ≡ howMany (refusedTo to) (samplesOf from p)
   refusable = counted-all (λ (s : Seen). s .refusable) (refusedTo to) (noted-refusable to) refl
 
+  lowest : Best ltOf (samplesOf from p) (all .lowest)
+  lowest = best-of ltOf lower-strict to (λ (s : Seen). s .lowest) (noted-lowest to) (samplesOf from p) nothingSeen refl
+
+  highest : Best gtOf (samplesOf from p) (all .highest)
+  highest = best-of gtOf higher-strict to (λ (s : Seen). s .highest) (noted-highest to) (samplesOf from p) nothingSeen refl
+
   whole-tells : leftOf from p ≡ 0 → Tells from to p all
   unfolding answerOf
   whole-tells ends = (
     many,
     nans,
+    lowest,
+    highest,
     refusable,
     all-answer to nothingSeen (samplesOf from p) few
         ∙ sym (ap (λ (t : Bool). refuseIf (not t) 9 (countOf from p) (rowAnswer (bitsTo to) 0 (samplesOf from p))) (eq-eqb (leftOf from p) 0 ends)),
@@ -159,6 +177,8 @@ module _ (from to : Kind) (p : List ℕ) (short : length p < 2 ^ 64) where
   left-tells some = (
     many,
     nans,
+    lowest,
+    highest,
     refusable,
     ap (refuses 9) many
         ∙ sym (ap (λ (t : Bool). refuseIf (not t) 9 (countOf from p) (rowAnswer (bitsTo to) 0 (samplesOf from p))) (ne-eqb (leftOf from p) 0 some)),

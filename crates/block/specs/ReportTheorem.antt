@@ -1,16 +1,21 @@
 -- What the theorem on reports speaks of: an input that is looked at as blocks. RULES.md: Report.
 use Prim.Native.Nat.{ℕ, suc, _^_, _<_}
-use mathlib.Core.Bool.{Bool, cond}
+use mathlib.Core.Bool.{Bool, false, not, cond}
 use mathlib.Core.Path.{_≡_}
 use mathlib.Core.List.{List, [], _∷_}
-use lib.ListN.{length}
+use lib.ListN.{length, getD}
 use Rattle.value.specs.declared.Kind.{Kind}
-use Rattle.row.specs.Row.{rowedOutcome}
+use Rattle.value.specs.declared.Value.{Value}
+use Rattle.value.specs.Outcome.{Outcome}
+use Rattle.cmp.specs.Compare.{ltOf, gtOf}
+use Rattle.row.specs.Row.{rowedOutcome, any}
+use Rattle.block.specs.declared.Found.{Found}
+use Rattle.block.specs.declared.Found.the-variants.{Is, Nothing}
 use Rattle.block.specs.declared.Seen.{Seen}
 use Rattle.block.specs.Samples.{countOf, leftOf, samplesOf}
 use Rattle.block.specs.Migrate.{answerOf}
 use Rattle.block.specs.Steps.{refusedTo}
-use Rattle.block.specs.Report.{isNan, nothingSeen, lookOf}
+use Rattle.block.specs.Report.{says, isNan, nothingSeen, lookOf}
 use Rattle.block.specs.Theorem.{joined}
 
 -- every block but the last has whole samples only
@@ -29,11 +34,19 @@ unfoldable pub howMany : {A : Type 0} → (A → Bool) → List A → ℕ
 howMany test [] = 0
 howMany test (x ∷ xs) = cond (test x) (suc (howMany test xs)) (howMany test xs)
 
--- what is told of a whole input: its counts, and the answer of its migration
+-- what is found is a number, it is one of the samples, and none passes the test against it; nothing is found where no sample is a number
+abbrev pub Best : (Value → Value → Outcome Bool) → List Value → Found → Type 0
+Best test vs Nothing = any (λ v. not (isNan v)) vs ≡ false
+Best test vs (Is a) = (isNan a ≡ false) × ((i : ℕ) × (i < length vs) × (getD vs i a ≡ a)) × (any (λ v. says (test v a)) vs ≡ false)
+
+-- what is told of a whole input: its counts, that none of its samples is lower than the lowest or higher than the highest, and the answer
+-- of its migration
 abbrev pub Tells : Kind → Kind → List ℕ → Seen → Type 0
 Tells from to bytes s =
     (s .samples ≡ countOf from bytes)
     × (s .nans ≡ howMany isNan (samplesOf from bytes))
+    × Best ltOf (samplesOf from bytes) (s .lowest)
+    × Best gtOf (samplesOf from bytes) (s .highest)
     × (s .refusable ≡ howMany (refusedTo to) (samplesOf from bytes))
     × (rowedOutcome (s .answer) ≡ answerOf from to bytes)
 
