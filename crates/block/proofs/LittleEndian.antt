@@ -6,7 +6,7 @@ use native.Mathlib.Nat.{mul-comm, zero-add, pow-suc, pow-le-pow-right, lt-of-lt-
 use native.Mathlib.Numerals.{add-one}
 use native.Mathlib.Omega.{arith}
 use lib.ListN.{length, take, drop, getD, set, length-drop, length-set, drop-of-length-le}
-use lib.Seq.{sets, length-take-le, drop-cons, getD-take, getD-drop}
+use lib.Seq.{sets, lt-length-set, length-take-le, drop-cons, getD-take, getD-drop}
 use Rattle.block.specs.Samples.{littleEndian, numberFrom}
 
 pub length-little : (w n : ℕ) → length (littleEndian w n) ≡ w
@@ -104,6 +104,16 @@ four-here src i h =
     let three : j + 3 ≡ suc (suc (suc j)) = omega arith in
     ap (λ (m : ℕ). numberFrom (take 4 (drop m src))) (mul-comm i 4)
     ∙ rw (drop-cons src j 0 (omega arith), drop-cons src (suc j) 0 (omega arith), drop-cons src (suc (suc j)) 0 (omega arith), drop-cons src (suc (suc (suc j))) 0 (omega arith), zero-add (getD src (suc (suc (suc j))) 0), one, two, three) refl
+
+-- a place is still inside when one, two and three bytes are laid down
+pub past-one : (l : List ℕ) (j b : ℕ) {m : ℕ} → m < length l → m < length (set l j (b % 256))
+past-one l j b h = lt-length-set l j (b % 256) h
+
+pub past-two : (l : List ℕ) (j b : ℕ) {m : ℕ} → m < length l → m < length (set (set l j (b % 256)) (j + 1) (b / 256 % 256))
+past-two l j b h = lt-length-set (set l j (b % 256)) (j + 1) (b / 256 % 256) (past-one l j b h)
+
+pub past-three : (l : List ℕ) (j b : ℕ) {m : ℕ} → m < length l → m < length (set (set (set l j (b % 256)) (j + 1) (b / 256 % 256)) (j + 2) (b / 256 / 256 % 256))
+past-three l j b h = lt-length-set (set (set l j (b % 256)) (j + 1) (b / 256 % 256)) (j + 2) (b / 256 / 256 % 256) (past-two l j b h)
 
 pub lay-two : (now : List ℕ) (j b : ℕ) → set (set now j (b % 256)) (j + 1) (b / 256 % 256) ≡ sets now j (littleEndian 2 b)
 unfolding littleEndian

@@ -1,13 +1,16 @@
 -- The four pairs that have row calls: each sample converts in its row as it does in its block, so the block is answered as its rows are.
-use mathlib.Core.Path.{_≡_, refl, sym, _∙_, ap}
+use mathlib.Core.Path.{_≡_, refl, sym, _∙_, ap, subst}
+use mathlib.Core.Bool.{Bool, false, not}
 use mathlib.Core.List.{List, [], _∷_, _++_, map}
-use Prim.Native.Nat.{ℕ, _+_, _/_, _^_, _≤_, _<_}
-use native.Mathlib.Nat.{zero-add, div-one, mod-eq-of-lt}
+use Prim.Native.Nat.{ℕ, zero, suc, _+_, _/_, _^_, _≤_, _<_}
+use native.Mathlib.Nat.{zero-add, div-one, mod-eq-of-lt, le-of-suc-le-suc, not-suc-le-zero}
 use native.Mathlib.Omega.{arith}
 use lib.ListN.{length, take, drop, getD, take-append-drop}
 use lib.Seq.{sets, sets-eq, length-take-le}
-use lib.Ieee.{Float, binary32, ofBits, toBits}
+use lib.Dec.{T}
+use lib.Ieee.{Float, nan, inf, fin, binary32, isNan, ofBits, toBits}
 use lib.Ieee.Bits.{toBits-lt}
+use lib.Ieee.Exact.{HasValue}
 use lib.Ieee.Fits.{ofInt-fits}
 use lib.IntN.{pos}
 use Rattle.value.specs.declared.Kind.the-variants as kind
@@ -17,12 +20,13 @@ use Rattle.value.specs.Outcome.{Outcome, gives, refuses, mapped, Success, done}
 use Rattle.value.proofs.FloatBits.{bits-pattern}
 use Rattle.convert.specs.Convert.{convertOf, madeIn}
 use Rattle.convert.proofs.Exactly.{complete}
-use Rattle.row.specs.Row.{rowResults, rowExit, sampleBefore}
+use Rattle.float.proofs.Tests.{neither}
+use Rattle.row.specs.Row.{any, rowResults, rowExit, sampleBefore}
 use Rattle.row.specs.Convert.{u8ToU16, u16ToU8, u16ToF32, f32ToU16, asF32, convertAnswer, convertExit}
 use Rattle.row.proofs.ConvertRow.{always-done}
 use Rattle.row.proofs.F32Sample.{bits-are, any-word}
 use Rattle.row.proofs.IntoUnsigned.{u8-wider, narrow-small}
-use Rattle.row.proofs.IntoF32.{encoded, same-number, u16-float}
+use Rattle.row.proofs.IntoF32.{cast-value, encoded, same-number, u16-float}
 use Rattle.value.specs.Kinds.{bytesOf}
 use Rattle.block.specs.Samples.{littleEndian, numberFrom, countOf, samplesOf, bytesFor}
 use Rattle.block.specs.Migrate.{bitsTo}
@@ -90,6 +94,25 @@ widened-block src old room bytes {now} q =
     (q ∙ ap (λ (l : List ℕ). sets old 0 (bytesFor kind.U16 (map (λ (n : ℕ). n) l))) (sym (map-same src)))
 
 -- ---- u16 to f32
+
+-- where none passes a test, that at a place doesn't
+pub none-here : {A : Type 0} (test : A → Bool) (l : List A) (i : ℕ) (d : A) → any test l ≡ false → i < length l → T (not (test (getD l i d)))
+unfolding any
+none-here test [] i d h l = absurd (not-suc-le-zero l)
+none-here test (x ∷ xs) zero d h l = subst (λ (b : Bool). T (not b)) (sym (neither (test x) (any test xs) h .0)) tt
+none-here test (x ∷ xs) (suc i) d h l = none-here test xs i d (neither (test x) (any test xs) h .1) (le-of-suc-le-suc l)
+
+-- no cast is a NaN
+cast-number : (x : Float) (s : Bool) (n : ℕ) → HasValue x s n 1 → isNan x ≡ false
+unfolding isNan
+cast-number nan s n v = absurd v
+cast-number (inf t) s n v = refl
+cast-number (fin t m e) s n v = refl
+
+pub casts-numbers : (xs : List ℕ) → ((i : ℕ) → i < length xs → getD xs i 0 < 2 ^ 16) → any isNan (map asF32 xs) ≡ false
+unfolding any
+casts-numbers [] all = refl
+casts-numbers (x ∷ xs) all = rw (cast-number (asF32 x) false x (cast-value x (all 0 (omega arith)))) (casts-numbers xs (λ i h. all (suc i) (omega arith)))
 
 pub floated-row : (xs : List ℕ) (ys : List Float) → length xs ≡ length ys → ((i : ℕ) → i < length xs → getD xs i 0 < 2 ^ 16) → convertExit u16ToF32 xs ys ≡ map asF32 xs
 floated-row xs ys same all = sym (always-done u16ToF32 xs ys asF32 (λ n. n < 2 ^ 16) 0 u16-float same all (map asF32 xs) refl .1)

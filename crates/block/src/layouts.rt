@@ -4,11 +4,12 @@ ghost use mathlib.Core.List.{map};
 ghost use Prim.Native.Nat.{ℕ, _+_, _*_, _≤_};
 ghost use lib.ListN.{length};
 ghost use lib.Seq.{sets};
-ghost use lib.Ieee.{binary32, ofBits};
+ghost use lib.Ieee.{binary32, isNan, ofBits};
+ghost use mathlib.Core.Bool.{false};
+ghost use Rattle.row.specs.Row.{any};
 ghost use Rattle.block.specs.Samples.{bytesFor};
 ghost use Rattle.block.specs.Steps.{numbersIn, plainBits};
 use value::Kind;
-use value::bits_f32;
 
 fn pair(low: u8, high: u8) -> u16
     ensures { λ r. ⌜ r ≡ high * 256 + low ⌝ }
@@ -71,13 +72,14 @@ pub(crate) fn store_u16s(row: &[u16], dst: &mut [u8], at: usize)
     }
 }
 
+// The same for a row without NaN.
 pub(crate) fn store_f32s(row: &[f32], dst: &mut [u8], at: usize)
-    requires { ⌜ at + 4 * length (now row) ≤ length (now dst) ⌝ }
+    requires { ⌜ (any isNan (now row) ≡ false) × (at + 4 * length (now row) ≤ length (now dst)) ⌝ }
     ensures { λ _. ⌜ now (dst .exit) ≡ sets (now (dst .entry)) at (bytesFor Kind.F32 (map plainBits (now (row .entry)))) ⌝ }
 {
     let mut i = 0;
     while i < row.len() {
-        let n = bits_f32(row[i], 0);
+        let n = f32::to_bits(row[i]);
         dst[at + 4 * i] = (n % 256) as u8;
         dst[at + 4 * i + 1] = (n / 256 % 256) as u8;
         dst[at + 4 * i + 2] = (n / 256 / 256 % 256) as u8;

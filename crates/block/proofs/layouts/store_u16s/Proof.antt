@@ -1,13 +1,12 @@
 -- Each turn lays one more sample down.
 use mathlib.Core.Path.{refl, ap}
-use Prim.Native.Nat.{ℕ, _+_, _-_, _*_, _%_, _≤_}
+use Prim.Native.Nat.{ℕ, _+_, _-_, _*_, _≤_}
 use native.Mathlib.Nat.{mul-comm}
 use native.Mathlib.Omega.{arith}
 use lib.ListN.{length, getD}
-use lib.Seq.{lt-length-set}
 use Rattle.value.specs.declared.Kind.the-variants as kind
 use Rattle.block.proofs.Samplings.{Filled, fill-none, fill-step, fill-end}
-use Rattle.block.proofs.LittleEndian.{lay-two}
+use Rattle.block.proofs.LittleEndian.{past-one, lay-two}
 use borrow.Author.Needs.{needs}
 use Rattle.block.proofs.layouts.store_u16s.Statement.{statement}
 use Rattle.block.proofs.layouts.store_u16s.Tie as tie
@@ -27,7 +26,7 @@ slice-write-dst-2 c =
     let turn = c .before in
     let b = turn .before in
     let a = b .before .args in
-    lt-length-set (b .loop .dst) (b .before .args .at + 2 * b .loop .i) (getD (a .row .now) (b .loop .i) 0 % 256) (omega (arith, turn .loop-test .taken, b .loop .inv .1 .0, b .before .pre))
+    past-one (b .loop .dst) (b .before .args .at + 2 * b .loop .i) (getD (a .row .now) (b .loop .i) 0) (omega (arith, turn .loop-test .taken, b .loop .inv .1 .0, b .before .pre))
 
 loop-again : tie.Need-loop-again Inv-loop μ-loop
 loop-again c =
