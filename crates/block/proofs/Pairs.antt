@@ -20,7 +20,7 @@ use Rattle.value.specs.Outcome.{Outcome, gives, refuses, mapped, Success, done}
 use Rattle.value.proofs.FloatBits.{bits-pattern}
 use Rattle.convert.specs.Convert.{convertOf, madeIn}
 use Rattle.convert.proofs.Exactly.{complete}
-use Rattle.float.proofs.Tests.{neither}
+use Rattle.float.proofs.Tests.{neither, clash}
 use Rattle.row.specs.Row.{any, rowResults, rowExit, sampleBefore}
 use Rattle.row.specs.Convert.{u8ToU16, u16ToU8, u16ToF32, f32ToU16, asF32, convertAnswer, convertExit}
 use Rattle.row.proofs.ConvertRow.{always-done}
@@ -53,7 +53,7 @@ module _ (n : ℕ) (small : n < 2 ^ 16) where
   u16-pattern : convertOf (U16 n) kind.F32 ≡ gives (f32Value (toBits binary32 (asF32 n)))
   unfolding madeIn
   u16-pattern =
-      complete (U16 n) kind.F32 (λ q. omega arith) (toBits binary32 (asF32 n)) (λ q. let k : _≡_ {A = ℕ} 0 1 = cc in omega arith) (same-number n small)
+      complete (U16 n) kind.F32 (λ q. omega arith) (toBits binary32 (asF32 n)) (λ q. clash cc) (same-number n small)
       ∙ ap (λ (b : ℕ). gives (f32Value b)) (encoded n small)
 
   u16-bits : bitsTo kind.F32 (U16 n) ≡ mapped plainBits (u16ToF32 n)

@@ -8,6 +8,7 @@ use native.Mathlib.Omega.{arith}
 use borrow.Author.Tests.{eq-eqb}
 use lib.ListN.{length, drop, getD, length-map, List·getD-map}
 use lib.Seq.{sets, getD-drop}
+use Rattle.float.proofs.Tests.{clash}
 use Rattle.value.specs.declared.Kind.{Kind}
 use Rattle.value.specs.declared.Value.the-variants.{U8}
 use Rattle.value.specs.Meaning.{valueOf}
@@ -64,7 +65,7 @@ results-length {A} {B} conv at (x ∷ xs) h = go (conv x) h (λ k. results-lengt
   where
     go : (o : Outcome B) → sampleThen at o (rowAnswer conv (suc at) xs) ≡ gives done → (rowAnswer conv (suc at) xs ≡ gives done → length (rowResults conv xs) ≡ length xs) → length (sampleBefore o (rowResults conv xs)) ≡ suc (length xs)
     go (gives y) k rest = ap suc (rest k)
-    go (refuses m p) k rest = absurd (let z : _≡_ {A = ℕ} 0 1 = cc in omega arith)
+    go (refuses m p) k rest = clash cc
 
 -- ---- the block by its row
 

@@ -9,6 +9,7 @@ use native.Mathlib.Omega.{arith}
 use borrow.Author.Tests.{eq-eqb, ne-eqb}
 use lib.ListN.{length, length-append}
 use Rattle.float.proofs.Naturals.{lt-or-ge}
+use Rattle.float.proofs.Tests.{clash}
 use Rattle.value.specs.declared.Kind.{Kind}
 use Rattle.value.specs.Outcome.{Outcome, gives, refuses, refuseIf, andThen, mapped, Success, done}
 use Rattle.row.specs.Row.{rowAnswer, rowResults}
@@ -23,7 +24,7 @@ use Rattle.block.proofs.Joining.{answer-joined, answer-placed, count-jo
 -- what a result was put together from
 given-before : (o : Outcome Success) (f : Success → Outcome Success) → andThen o f ≡ gives done → o ≡ gives done
 given-before (gives done) f h = refl
-given-before (refuses m p) f h = absurd (let q : _≡_ {A = ℕ} 0 1 = cc in omega arith)
+given-before (refuses m p) f h = clash cc
 
 same-result : {A : Type 0} (o : Outcome Success) {a b : A} → (o ≡ gives done → a ≡ b) → mapped (λ d. a) o ≡ mapped (λ d. b) o
 same-result (gives done) h = ap gives (h refl)

@@ -1,10 +1,9 @@
 -- What was compared, told from the outcome: the kinds are one, and the order is that of the numbers or of the positions.
 use mathlib.Core.Path.{_≡_, refl, ap}
 use mathlib.Core.Bool.{Bool, true, false}
-use Prim.Native.Nat.{ℕ}
-use native.Mathlib.Omega.{arith}
 use Rattle.float.specs.Order.{orderOf, orderZ}
 use Rattle.float.specs.declared.Order.{Order}
+use Rattle.float.proofs.Tests.{clash}
 use Rattle.value.specs.declared.Value.{Value}
 use Rattle.value.specs.Kinds.{kindOf}
 use Rattle.value.specs.Meaning.{numberOf, positionOf}
@@ -14,7 +13,7 @@ use Rattle.cmp.specs.Compare.{kindsDiffer, compareOf, totalOf}
 use Rattle.cmp.proofs.KindTests.{alike, one-kind}
 
 given-order : (t : Bool) {o p : Order} → refuseIf t 7 0 (gives o) ≡ gives p → (t ≡ false) × (o ≡ p)
-given-order true h = absurd (let q : _≡_ {A = ℕ} 0 1 = cc in omega arith)
+given-order true h = clash cc
 given-order false h = (refl, cc)
 
 -- the kinds and the order, of values that were compared

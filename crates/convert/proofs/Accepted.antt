@@ -18,6 +18,7 @@ use Rattle.float.specs.Order.{patternOf}
 use Rattle.float.proofs.Naturals.{three-ways}
 use Rattle.float.proofs.Magnitude.{abs-signed, mag-grows, mag-largest}
 use Rattle.float.proofs.Comparing.{pattern-nan, pattern-infinite, pattern-finite}
+use Rattle.float.proofs.Tests.{clash}
 use Rattle.value.specs.Kinds.{Form, unsigned, signed, float}
 use Rattle.value.specs.Meaning.{wholeOf, unit, stepOf}
 use Rattle.value.specs.Outcome.{gives}
@@ -146,9 +147,9 @@ inside-unsigned k true m n l h q =
 
 -- a number is neither none nor an infinity
 only-finite : {A : Type 0} (z : ℤ) (t : Bool) → (number z ≡ none) ⊎ (number z ≡ infinityOf t) → A
-only-finite z t (inl h) = absurd (let q : _≡_ {A = ℕ} 0 1 = cc in omega arith)
-only-finite z true (inr h) = absurd (let q : _≡_ {A = ℕ} 0 1 = cc in omega arith)
-only-finite z false (inr h) = absurd (let q : _≡_ {A = ℕ} 0 1 = cc in omega arith)
+only-finite z t (inl h) = clash cc
+only-finite z true (inr h) = clash cc
+only-finite z false (inr h) = clash cc
 
 pub accepts-unsigned : (k n : ℕ) (x : Exact) → n < 2 ^ k → numberOf (times unit (wholeOf (pos n))) ≡ numberOf x → Accepted (unsigned k) x
 accepts-unsigned k n notNumber l h = only-finite _ true (inl h)

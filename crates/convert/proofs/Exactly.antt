@@ -14,6 +14,7 @@ use Rattle.float.specs.Number.{Exact, notNumber, infinite, finite, isNone, time
 use Rattle.float.specs.Number as float-number
 use Rattle.float.specs.Order.{patternOf}
 use Rattle.float.proofs.Naturals.{lt-or-ge}
+use Rattle.float.proofs.Tests.{clash}
 use Rattle.value.specs.declared.Kind.{Kind}
 use Rattle.value.specs.declared.Kind.the-variants as kind
 use Rattle.value.specs.declared.Value.{Value}
@@ -132,10 +133,10 @@ none-is (infinite s) h = refl
 none-is (finite s m) h = refl
 
 is-none : (x : Exact) → isNone x ≡ false → float-number.numberOf x ≡ none → ⊥
-is-none notNumber t h = let q : _≡_ {A = ℕ} 0 1 = cc in omega arith
-is-none (infinite true) t h = let q : _≡_ {A = ℕ} 0 1 = cc in omega arith
-is-none (infinite false) t h = let q : _≡_ {A = ℕ} 0 1 = cc in omega arith
-is-none (finite s m) t h = let q : _≡_ {A = ℕ} 0 1 = cc in omega arith
+is-none notNumber t h = clash cc
+is-none (infinite true) t h = clash cc
+is-none (infinite false) t h = clash cc
+is-none (finite s m) t h = clash cc
 
 -- ---- when a value converts
 

@@ -2,9 +2,9 @@
 use mathlib.Core.Path.{_≡_, refl, sym, _∙_, ap, subst}
 use mathlib.Core.Bool.{Bool, true}
 use Prim.Native.Nat.{ℕ}
-use native.Mathlib.Omega.{arith}
 use lib.Ieee.{Format}
 use Rattle.float.specs.Number.{notNumber, infinite, none}
+use Rattle.float.proofs.Tests.{clash}
 use Rattle.value.specs.declared.Kind.{Kind}
 use Rattle.value.specs.declared.Value.{Value}
 use Rattle.value.specs.Kinds.{kindOf, kindNumber, Form, float, formOf}
@@ -17,7 +17,7 @@ use Rattle.convert.proofs.Exactly.{into-gives, other-kind, complete, ke
 module _ (v : Value) (to : Kind) (other : kindNumber (kindOf v) ≡ kindNumber to → ⊥) where
   -- no refusal hides a number that exists
   pub refused-none : (n p : ℕ) → convertOf v to ≡ refuses n p → (numberOf v ≡ none → ⊥) → (b : ℕ) → numberOf (valueOf to b) ≡ numberOf v → ⊥
-  refused-none n p h d b q = let k : _≡_ {A = ℕ} 0 1 = cc (complete v to other b d q, h) in omega arith
+  refused-none n p h d b q = clash (cc (complete v to other b d q, h))
 
   pub nan-never : exactOf v ≡ notNumber → convertOf v to ≡ refuses 1 0
   unfolding intoOf

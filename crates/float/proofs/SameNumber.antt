@@ -2,18 +2,18 @@
 use mathlib.Core.Path.{_≡_, refl, sym, ap}
 use mathlib.Core.Logic.{inl, inr}
 use Prim.Native.Nat.{ℕ}
-use native.Mathlib.Omega.{arith}
 use lib.IntN.{ℤ, pos, negsuc}
 use Rattle.float.specs.Number.{Number, none, minusInfinity, plusInfinity, number}
 use Rattle.float.specs.Order.{orderN, orderZ, orderOf}
 use Rattle.float.specs.declared.Order.the-variants.{Equal}
 use Rattle.float.proofs.Naturals.{three-ways, order-less, order-greater, order-equal}
+use Rattle.float.proofs.Tests.{clash}
 
 equal-naturals : (m n : ℕ) → orderN m n ≡ Equal → m ≡ n
 equal-naturals m n h = elim (three-ways m n) [
-  | inl l ↦ let q : _≡_ {A = ℕ} 0 1 = cc (order-less m n l) in absurd (omega arith)
+  | inl l ↦ clash (cc (order-less m n l))
   | inr (inl q) ↦ q
-  | inr (inr g) ↦ let q : _≡_ {A = ℕ} 0 1 = cc (order-greater m n g) in absurd (omega arith)
+  | inr (inr g) ↦ clash (cc (order-greater m n g))
 ]
 
 pub equal-integers : (y z : ℤ) → orderZ y z ≡ Equal → y ≡ z
@@ -48,4 +48,4 @@ same-equal plusInfinity h = refl
 same-equal (number z) h = integer-equal z
 
 pub equal-not-none : (x y : Number) → orderOf x y ≡ Equal → x ≡ none → ⊥
-equal-not-none x y h q = let k : _≡_ {A = ℕ} 0 1 = cc in omega arith
+equal-not-none x y h q = clash cc

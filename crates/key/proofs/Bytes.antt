@@ -13,6 +13,7 @@ use Rattle.float.specs.Order.{orderN, isEqual}
 use Rattle.float.specs.declared.Order.{Order}
 use Rattle.float.specs.declared.Order.the-variants.{Less, Equal, Greater, Unordered}
 use Rattle.float.proofs.Naturals.{three-ways, order-less, order-greater, order-equal, equal-test}
+use Rattle.float.proofs.Tests.{clash}
 use Rattle.record.specs.Record.{orElse}
 use Rattle.key.specs.Key.{bigEndian, numberFrom}
 use Rattle.key.specs.Prefix.{bytesOrder}
@@ -151,16 +152,16 @@ order-big k m n h l =
 -- ---- Equal exactly when the strings are the same
 
 both-equal : (a b : Order) → orElse a b ≡ Equal → (a ≡ Equal) × (b ≡ Equal)
-both-equal Less b h = absurd (let q : _≡_ {A = ℕ} 0 1 = cc in omega arith)
+both-equal Less b h = clash cc
 both-equal Equal b h = (refl, h)
-both-equal Greater b h = absurd (let q : _≡_ {A = ℕ} 0 1 = cc in omega arith)
-both-equal Unordered b h = absurd (let q : _≡_ {A = ℕ} 0 1 = cc in omega arith)
+both-equal Greater b h = clash cc
+both-equal Unordered b h = clash cc
 
 pub equal-bytes : (a b : List ℕ) → bytesOrder a b ≡ Equal → a ≡ b
 unfolding bytesOrder
 equal-bytes [] [] h = refl
-equal-bytes [] (y ∷ b) h = absurd (let q : _≡_ {A = ℕ} 0 1 = cc in omega arith)
-equal-bytes (x ∷ a) [] h = absurd (let q : _≡_ {A = ℕ} 0 1 = cc in omega arith)
+equal-bytes [] (y ∷ b) h = clash cc
+equal-bytes (x ∷ a) [] h = clash cc
 equal-bytes (x ∷ a) (y ∷ b) h =
     let p : x ≡ y = eqb-true x y (sym (equal-test x y) ∙ ap isEqual (both-equal (orderN x y) (bytesOrder a b) h .0)) in
     let q : a ≡ b = equal-bytes a b (both-equal (orderN x y) (bytesOrder a b) h .1) in

@@ -3,7 +3,6 @@ use mathlib.Core.Path.{_≡_, sym, _∙_, ap}
 use mathlib.Core.Bool.{Bool}
 use Prim.Native.Nat.{ℕ, _*_, _^_, _<_}
 use native.Mathlib.Nat.{mul-one, mul-assoc, mul-right-comm, eq-of-mul-eq-mul-right}
-use native.Mathlib.Omega.{arith}
 use lib.Dec.{T}
 use lib.Pow.{pow-add}
 use lib.Ieee.{Float, nan, inf, fin, Format, binary32, low, top, up, down, fits, toBits, ofBits}
@@ -13,6 +12,7 @@ use Rattle.float.specs.Format.{fractionOf, exponentOf}
 use Rattle.float.specs.Number.{Exact, finite}
 use Rattle.float.specs.Order.{patternOf}
 use Rattle.float.proofs.Language.{Means, means-nan, means-inf, means-fin, pattern-means, float-means}
+use Rattle.float.proofs.Tests.{clash}
 use Rattle.value.specs.Meaning.{unit, stepOf}
 
 -- ---- a value in smallest steps of the format
@@ -25,8 +25,8 @@ means-value f s a (means-fin t m e b q) v =
     cc (v .0, same)
 
 value-means : (f : Format) (s : Bool) (a : ℕ) {x : Float} {X : Exact} → Means f x X → X ≡ finite s a → HasValue x s a (2 ^ low f)
-value-means f s a means-nan h = absurd (let q : _≡_ {A = ℕ} 0 1 = cc in omega arith)
-value-means f s a (means-inf t) h = absurd (let q : _≡_ {A = ℕ} 0 1 = cc in omega arith)
+value-means f s a means-nan h = clash cc
+value-means f s a (means-inf t) h = clash cc
 value-means f s a (means-fin t m e b q) h = let same : b ≡ a = cc in (cc, q ∙ ap (λ (k : ℕ). k * down e) same)
 
 module _ (f : Format) (x : Float) (s : Bool) (a : ℕ) (h : T (fits f x)) where

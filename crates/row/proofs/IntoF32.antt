@@ -14,6 +14,7 @@ use Rattle.float.specs.Format.{negativeOf, absOf, infiniteOf, nanOf, magOf}
 use Rattle.float.specs.Number.{Exact, notNumber, infinite, finite, times}
 use Rattle.float.specs.Number as float-number
 use Rattle.float.specs.Order.{patternOf}
+use Rattle.float.proofs.Tests.{clash}
 use Rattle.value.specs.declared.Kind.the-variants as kind
 use Rattle.value.specs.declared.Value.the-variants.{U16}
 use Rattle.value.specs.Meaning.{numberOf, unit, stepOf, valueOf}
@@ -33,8 +34,8 @@ finite-fields p e b s a = go (nanOf p e b) (infiniteOf p e b)
   where
     go : (n i : Bool) → cond n notNumber (cond i (infinite (negativeOf p e b)) (finite (negativeOf p e b) (magOf p (absOf p e b)))) ≡ finite s a
         → (negativeOf p e b ≡ s) × (magOf p (absOf p e b) ≡ a)
-    go true i h = absurd (let q : _≡_ {A = ℕ} 0 1 = cc in omega arith)
-    go false true h = absurd (let q : _≡_ {A = ℕ} 0 1 = cc in omega arith)
+    go true i h = clash cc
+    go false true h = clash cc
     go false false h = (cc, cc)
 
 positive-abs : (p e b : ℕ) → negativeOf p e b ≡ false → absOf p e b ≡ b
@@ -73,6 +74,6 @@ module _ (n : ℕ) (small : n < 2 ^ 16) where
   pub u16-float : u16ToF32 n ≡ gives (asF32 n)
   unfolding u16ToF32 madeIn
   u16-float =
-      ap (mapped floatOf) (complete (U16 n) kind.F32 (λ q. omega arith) bits (λ q. let k : _≡_ {A = ℕ} 0 1 = cc in omega arith) same-number)
+      ap (mapped floatOf) (complete (U16 n) kind.F32 (λ q. omega arith) bits (λ q. clash cc) same-number)
       ∙ ap (λ (b : ℕ). gives (ofBits binary32 b)) encoded
       ∙ ap gives (ofBits-toBits binary32 (asF32 n) cast-fits)

@@ -2,7 +2,7 @@
 use mathlib.Core.Path.{_≡_, refl, sym, _∙_}
 use mathlib.Core.Bool.{Bool, true, false}
 use Prim.Native.Nat.{ℕ}
-use native.Mathlib.Omega.{arith}
+use Rattle.float.proofs.Tests.{clash}
 use Rattle.value.specs.declared.Refusal.{Refusal}
 use Rattle.value.specs.Outcome.{Outcome, gives, refuses, refuseIf, refusalOf}
 
@@ -20,7 +20,7 @@ refusal-injective f g h =
 
 -- a result came past the rule
 pub refuse-passes : {A : Type 0} (t : Bool) (n p : ℕ) (next : Outcome A) (a : A) → refuseIf t n p next ≡ gives a → (t ≡ false) × (next ≡ gives a)
-refuse-passes true n p next a h = absurd (let q : _≡_ {A = ℕ} 0 1 = cc in omega arith)
+refuse-passes true n p next a h = clash cc
 refuse-passes false n p next a h = (refl, h)
 
 -- one refusal is one number and one place
