@@ -1,6 +1,6 @@
 //! Runs a program on made cases and compares its answers with our own.
 
-use std::ffi::OsStr;
+use std::ffi::OsString;
 use std::io::{self, Write};
 use std::time::{Instant, SystemTime, UNIX_EPOCH};
 
@@ -15,7 +15,12 @@ const SHOWN_BYTES: usize = 200;
 const SOAK_COUNT: usize = 1_000_000;
 
 /// Answers whether the program agreed in all.
-pub fn compare(seed: u64, count: usize, program: &OsStr, out: &mut impl Write) -> io::Result<bool> {
+pub fn compare(
+    seed: u64,
+    count: usize,
+    program: &[OsString],
+    out: &mut impl Write,
+) -> io::Result<bool> {
     let mut tally = Tally::new();
     let well = compare_seed(seed, count, program, &mut tally, out)?;
     tally.report(out)?;
@@ -24,7 +29,7 @@ pub fn compare(seed: u64, count: usize, program: &OsStr, out: &mut impl Write) -
 
 /// Seed after seed, from one that is new at every run, until the time is over
 /// or the program disagrees.
-pub fn soak(seconds: u64, program: &OsStr, out: &mut impl Write) -> io::Result<bool> {
+pub fn soak(seconds: u64, program: &[OsString], out: &mut impl Write) -> io::Result<bool> {
     let start = Instant::now();
     let now = SystemTime::now().duration_since(UNIX_EPOCH);
     let mut seed = now.map_or(0, |since| since.as_secs());
@@ -44,7 +49,7 @@ pub fn soak(seconds: u64, program: &OsStr, out: &mut impl Write) -> io::Result<b
 fn compare_seed(
     seed: u64,
     count: usize,
-    program: &OsStr,
+    program: &[OsString],
     tally: &mut Tally,
     out: &mut impl Write,
 ) -> io::Result<bool> {

@@ -15,15 +15,16 @@ usage: oracle cases SEED COUNT            case lines made from a seed
        oracle compare SEED COUNT PROGRAM  a program's answers against ours
        oracle soak SECONDS PROGRAM        the same, seed after seed for that time
        oracle order SEED COUNT PROGRAM    the order of a program's keys against comparison
+PROGRAM may have arguments behind it.
 ";
 
 enum Command<'a> {
     Cases(u64, usize),
     Fixed,
     Answers,
-    Compare(u64, usize, &'a OsStr),
-    Soak(u64, &'a OsStr),
-    Order(u64, usize, &'a OsStr),
+    Compare(u64, usize, &'a [OsString]),
+    Soak(u64, &'a [OsString]),
+    Order(u64, usize, &'a [OsString]),
 }
 
 fn main() -> ExitCode {
@@ -50,11 +51,13 @@ fn command(arguments: &[OsString]) -> Option<Command<'_>> {
         ("cases", [seed, count]) => Some(Command::Cases(number(seed)?, number(count)?)),
         ("fixed", []) => Some(Command::Fixed),
         ("answers", []) => Some(Command::Answers),
-        ("compare", [seed, count, program]) => {
+        ("compare", [seed, count, program @ ..]) if !program.is_empty() => {
             Some(Command::Compare(number(seed)?, number(count)?, program))
         }
-        ("soak", [seconds, program]) => Some(Command::Soak(number(seconds)?, program)),
-        ("order", [seed, count, program]) => {
+        ("soak", [seconds, program @ ..]) if !program.is_empty() => {
+            Some(Command::Soak(number(seconds)?, program))
+        }
+        ("order", [seed, count, program @ ..]) if !program.is_empty() => {
             Some(Command::Order(number(seed)?, number(count)?, program))
         }
         _ => None,

@@ -1,6 +1,6 @@
 //! Holds the order of keys, as bytes, against the comparison of their records.
 
-use std::ffi::OsStr;
+use std::ffi::OsString;
 use std::io::{self, Write};
 
 use crate::bytes;
@@ -55,7 +55,12 @@ pub fn out_of_order(records: &[Record], keys: &[Vec<u8>]) -> Vec<[usize; 2]> {
 
 /// Asks a program for the keys of made records. Answers whether it gave all, and
 /// all are in order.
-pub fn order(seed: u64, count: usize, program: &OsStr, out: &mut impl Write) -> io::Result<bool> {
+pub fn order(
+    seed: u64,
+    count: usize,
+    program: &[OsString],
+    out: &mut impl Write,
+) -> io::Result<bool> {
     let families = Families::new(seed, count);
     let lines = families.clone().flatten().map(line);
     let mut answers = Vec::new();

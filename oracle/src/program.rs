@@ -1,6 +1,6 @@
 //! Runs a program on lines.
 
-use std::ffi::OsStr;
+use std::ffi::OsString;
 use std::io::{self, BufRead, BufReader, BufWriter, Write};
 use std::process::{Child, ChildStdin, Command, ExitStatus, Stdio};
 use std::thread;
@@ -27,7 +27,7 @@ impl Ended {
 /// Gives lines to a program, and takes each with its answer; with nothing when
 /// there are no more answers.
 pub fn ask<L>(
-    program: &OsStr,
+    program: &[OsString],
     lines: L,
     mut take: impl FnMut(Vec<u8>, Option<Vec<u8>>) -> io::Result<()>,
 ) -> io::Result<Ended>
@@ -52,8 +52,13 @@ where
     Ok(Ended { too_many, status })
 }
 
-fn start(program: &OsStr) -> io::Result<Child> {
+/// The first word is the program's name, the others are its arguments.
+fn start(words: &[OsString]) -> io::Result<Child> {
+    let (program, arguments) = words
+        .split_first()
+        .ok_or_else(|| io::Error::new(io::ErrorKind::InvalidInput, "no program"))?;
     Command::new(program)
+        .args(arguments)
         .stdin(Stdio::piped())
         .stdout(Stdio::piped())
         .spawn()
