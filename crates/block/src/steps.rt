@@ -52,9 +52,9 @@ fn one_by_one(from: Kind, to: Kind, src: &[u8], n: usize, dst: &mut [u8]) -> Row
     Rowed::Done
 }
 
-// The pairs that have rows go through the row calls, the others sample by sample.
+// The pairs that have rows go through the row calls, the others sample by sample. A row for a whole block has 32768 places.
 fn by_pair(from: Kind, to: Kind, src: &[u8], n: usize, dst: &mut [u8]) -> Rowed
-    requires { ⌜ (n ≡ countOf from (now src)) × (n ≤ length (now dst) / bytesOf to) × (n ≤ 32768) ⌝ }
+    requires { ⌜ (n ≡ countOf from (now src)) × (n ≤ length (now dst) / bytesOf to) ⌝ }
     ensures answer { λ r. ⌜ rowedOutcome r ≡ blockAnswer from to (now (src .entry)) (length (now (dst .entry))) ⌝ }
     ensures exit { λ _. ⌜ now (dst .exit) ≡ blockExit from to (now (src .entry)) (now (dst .entry)) ⌝ }
 {
@@ -64,19 +64,27 @@ fn by_pair(from: Kind, to: Kind, src: &[u8], n: usize, dst: &mut [u8]) -> Rowed
             _ => one_by_one(from, to, src, n, dst),
         },
         Kind::U16 => match to {
-            Kind::U8 => narrowed(src, n, dst),
+            Kind::U8 => if n > 32768 {
+                one_by_one(from, to, src, n, dst)
+            } else {
+                narrowed(src, n, dst)
+            },
             Kind::F32 => floated(src, n, dst),
             _ => one_by_one(from, to, src, n, dst),
         },
         Kind::F32 => match to {
-            Kind::U16 => made_whole(src, n, dst),
+            Kind::U16 => if n > 32768 {
+                one_by_one(from, to, src, n, dst)
+            } else {
+                made_whole(src, n, dst)
+            },
             _ => one_by_one(from, to, src, n, dst),
         },
         _ => one_by_one(from, to, src, n, dst),
     }
 }
 
-// The block alone. A row for a whole block has 32768 places.
+// The block alone.
 fn block(from: Kind, to: Kind, src: &[u8], dst: &mut [u8]) -> Rowed
     ensures answer { λ r. ⌜ rowedOutcome r ≡ blockAnswer from to (now (src .entry)) (length (now (dst .entry))) ⌝ }
     ensures exit { λ _. ⌜ now (dst .exit) ≡ blockExit from to (now (src .entry)) (now (dst .entry)) ⌝ }
@@ -84,9 +92,6 @@ fn block(from: Kind, to: Kind, src: &[u8], dst: &mut [u8]) -> Rowed
     let n = src.len() / bytes_of(from);
     if dst.len() / bytes_of(to) < n {
         return refused(9, 0);
-    }
-    if n > 32768 {
-        return one_by_one(from, to, src, n, dst);
     }
     by_pair(from, to, src, n, dst)
 }

@@ -1,5 +1,5 @@
 // The blocks of a file, one after the other.
-ghost use Prim.Native.Nat.{_*_, _≤_, _<_};
+ghost use Prim.Native.Nat.{_*_, _/_, _%_, _≤_, _<_};
 ghost use mathlib.Core.Path.{_≡_};
 ghost use lib.ListN.{length};
 ghost use Rattle.value.specs.Kinds.{bytesOf};
@@ -11,8 +11,8 @@ use row::Rowed;
 use value::Kind;
 use value::bytes_of;
 
-// Room for 32768 samples of any kind.
-pub(crate) type Buffer = [u8; 262144];
+// Room for a block of samples, in either kind.
+pub(crate) type Buffer = [u8; 524288];
 
 // What stopped a run before its end: nothing, or a read or a write, with the system's number.
 pub enum Fault {
@@ -36,9 +36,21 @@ pub struct Block {
 }
 
 pub(crate) fn large_buffer() -> Buffer
-    ensures { λ r. ⌜ 262144 ≡ length r ⌝ }
+    ensures { λ r. ⌜ 524288 ≡ length r ⌝ }
 {
-    [0; 262144]
+    [0; 524288]
+}
+
+// How many bytes are read at once: whole samples, with room for them in both buffers. Samples that become wider fill the second buffer, as few
+// large writes cost less than many; of the others there are as many as a row for a whole block has places for.
+pub(crate) fn block_bytes(from: Kind, to: Kind) -> usize
+    ensures whole { λ r. ⌜ r % bytesOf from ≡ 0 ⌝ }
+    ensures room { λ r. ⌜ (r ≤ 524288) × (r / bytesOf from * bytesOf to ≤ 524288) ⌝ }
+{
+    let own = bytes_of(from);
+    let other = bytes_of(to);
+    let samples = if own < other { 524288 / other } else { 32768 };
+    samples * own
 }
 
 // Moves the whole of input to output.
@@ -56,9 +68,10 @@ pub(crate) fn run(
         turns: u64::MAX,
     };
     while r.turns > 0 {
+        let before = r.progress;
         r = step(input, output, from, to, src, dst, r);
-        let progress = r.progress;
-        put_progress(progress.samples, r.turns);
+        let after = r.progress;
+        put_progress(before.samples, after.samples);
     }
     r
 }
@@ -77,7 +90,7 @@ fn step(
     ensures { λ next. ⌜ next .turns < r .turns ⌝ }
 {
     let before = r.progress;
-    let got = read_block(input, from, src);
+    let got = read_block(input, block_bytes(from, to), src);
     if got.failed {
         return State {
             progress: before,
@@ -105,12 +118,11 @@ pub(crate) fn turns_left(turns: u64, full: bool, fault: Fault) -> u64
     }
 }
 
-// Reads up to 32768 samples.
-pub(crate) fn read_block(input: i32, from: Kind, src: &mut [u8]) -> Block
-    requires { ⌜ length (now src) ≡ 262144 ⌝ }
-    ensures { λ r. ⌜ (r .bytes ≤ 32768 * bytesOf from) × (r .bytes ≤ 262144) ⌝ }
+// Reads up to size bytes.
+pub(crate) fn read_block(input: i32, size: usize, src: &mut [u8]) -> Block
+    requires { ⌜ size ≤ length (now src) ⌝ }
+    ensures { λ r. ⌜ r .bytes ≤ size ⌝ }
 {
-    let size = 32768 * bytes_of(from);
     let got = fill(input, &mut src[..size]);
     Block {
         bytes: got.bytes,
@@ -134,8 +146,8 @@ fn convert(
 
 // How many bytes the samples of a block are in the other kind.
 fn output_bytes(from: Kind, to: Kind, bytes: usize) -> usize
-    requires { ⌜ bytes ≤ 32768 * bytesOf from ⌝ }
-    ensures { λ r. ⌜ r ≤ 262144 ⌝ }
+    requires { ⌜ bytes / bytesOf from * bytesOf to ≤ 524288 ⌝ }
+    ensures { λ r. ⌜ r ≤ 524288 ⌝ }
 {
     let samples = bytes / bytes_of(from);
     samples * bytes_of(to)
@@ -150,7 +162,7 @@ fn write_block(
     dst: &[u8],
     bytes: usize,
 ) -> Fault
-    requires { ⌜ (bytes ≤ 32768 * bytesOf from) × (length (now dst) ≡ 262144) ⌝ }
+    requires { ⌜ (bytes / bytesOf from * bytesOf to ≤ 524288) × (length (now dst) ≡ 524288) ⌝ }
 {
     let answer = progress.answer;
     match answer {
@@ -166,11 +178,11 @@ fn write_block(
     }
 }
 
-// A line on standard error for every 2^27 samples, so that a long run is seen to go on.
-pub(crate) fn put_progress(samples: usize, turns: u64) {
-    if (turns > 0) & (turns % 4096 == 0) {
+// A line on standard error whenever the samples pass a multiple of 2^27, so that a long run is seen to go on.
+pub(crate) fn put_progress(before: usize, after: usize) {
+    if before / 134217728 < after / 134217728 {
         io::write_all(libc::STDERR_FILENO, b"samples so far: ");
-        io::print_decimal(libc::STDERR_FILENO, samples as u64);
+        io::print_decimal(libc::STDERR_FILENO, after as u64);
         io::write_all(libc::STDERR_FILENO, b"\n");
     }
 }

@@ -3,6 +3,7 @@ ghost use Prim.Native.Nat.{_≤_, _<_};
 ghost use lib.ListN.{length};
 use crate::blocks::Buffer;
 use crate::blocks::Fault;
+use crate::blocks::block_bytes;
 use crate::blocks::large_buffer;
 use crate::blocks::put_progress;
 use crate::blocks::read_block;
@@ -42,9 +43,10 @@ fn look_through(input: i32, from: Kind, to: Kind, src: &mut Buffer) -> Look {
         turns: u64::MAX,
     };
     while r.turns > 0 {
+        let before = r.seen;
         r = look_on(input, from, to, src, r);
-        let seen = r.seen;
-        put_progress(seen.samples, r.turns);
+        let after = r.seen;
+        put_progress(before.samples, after.samples);
     }
     r
 }
@@ -55,7 +57,7 @@ fn look_on(input: i32, from: Kind, to: Kind, src: &mut Buffer, r: Look) -> Look
     ensures { λ next. ⌜ next .turns < r .turns ⌝ }
 {
     let before = r.seen;
-    let got = read_block(input, from, src);
+    let got = read_block(input, block_bytes(from, from), src);
     if got.failed {
         return Look {
             seen: before,

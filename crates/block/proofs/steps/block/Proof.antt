@@ -20,21 +20,13 @@ returns c =
     (ap rowedOutcome (c .refused .ensures) ∙ r .0, r .1)
 
 -- what the samples ask for: their number, and room for them
-asked : (c : tie.Else1)
-    → (let first = c .before .before in
-    let a = first .before .before .before .args in
-    (length (a .src .now) / first .bytes-of .result ≡ countOf (a .from) (a .src .now)) × (length (a .src .now) / first .bytes-of .result ≤ length (a .dst .now) / bytesOf (a .to)))
-asked c =
-    let second = c .before in
+by-pair-requires : tie.Need-by-pair-requires
+by-pair-requires c κs =
+    let passed = c .before in
+    let second = passed .before in
     let first = second .before in
     let a = first .before .before .before .args in
-    (ap (λ (w : ℕ). length (a .src .now) / w) (first .bytes-of .ensures .0), enough (length (a .dst .now)) (length (a .src .now) / first .bytes-of .result) (second .bytes-of2 .ensures .0) (c .if1 .left))
-
-one-by-one-requires : tie.Need-one-by-one-requires
-one-by-one-requires c κs = asked (c .before .before)
-
-by-pair-requires : tie.Need-by-pair-requires
-by-pair-requires c κs = let r = asked (c .before .before) in (r .0, r .1, c .before .if2 .left)
+    (ap (λ (w : ℕ). length (a .src .now) / w) (first .bytes-of .ensures .0), enough (length (a .dst .now)) (length (a .src .now) / first .bytes-of .result) (second .bytes-of2 .ensures .0) (passed .if1 .left))
 
 pub block-spec : {M : Type 1} → statement M
 block-spec =
@@ -46,9 +38,6 @@ block-spec =
     (λ c. search needs)
     (λ c κs. search needs)
     returns
-    one-by-one-requires
-    (λ c. search needs)
-    (λ c. search needs)
     by-pair-requires
     (λ c. search needs)
     (λ c. search needs))

@@ -16,12 +16,13 @@ widened-requires c κs =
 
 narrowed-requires : tie.Need-narrowed-requires
 narrowed-requires c κs =
-    let second = c .before in
+    let few = c .before in
+    let second = few .before in
     let first = second .before .before in
     let s = first .before .before .before .before in
     let a = s .args in
     let r = count-by-kinds (a .from) (a .to) (a .src .now) (a .n) (length (a .dst .now)) (first .enum-told3 .given .1) (second .enum-told4 .given .1) (s .pre .0) (s .pre .1) in
-    (r .0, r .1, s .pre .2)
+    (r .0, r .1, few .if1 .left)
 
 floated-requires : tie.Need-floated-requires
 floated-requires c κs =
@@ -34,12 +35,13 @@ floated-requires c κs =
 
 made-whole-requires : tie.Need-made-whole-requires
 made-whole-requires c κs =
-    let second = c .before in
+    let few = c .before in
+    let second = few .before in
     let first = second .before .before in
     let s = first .before .before .before .before in
     let a = s .args in
     let r = count-by-kinds (a .from) (a .to) (a .src .now) (a .n) (length (a .dst .now)) (first .enum-told6 .given .1) (second .enum-told7 .given .1) (s .pre .0) (s .pre .1) in
-    (r .0, r .1, s .pre .2)
+    (r .0, r .1, few .if2 .left)
 
 returns : tie.Need-returns
 returns c =
@@ -49,26 +51,26 @@ returns c =
     let a = first .before .before .before .before .args in
     by-kinds (a .from) (a .to) (a .src .now) (a .dst .now) (first .enum-told .given .1) (second .enum-told2 .given .1) (called .widened .ensures)
 
-returns-3 : tie.Need-returns-3
-returns-3 c =
+returns-4 : tie.Need-returns-4
+returns-4 c =
     let called = c .before .before in
-    let second = called .before .before in
+    let second = called .before .before .before in
     let first = second .before .before in
     let a = first .before .before .before .before .args in
     by-kinds (a .from) (a .to) (a .src .now) (a .dst .now) (first .enum-told3 .given .1) (second .enum-told4 .given .1) (called .narrowed .ensures)
 
-returns-4 : tie.Need-returns-4
-returns-4 c =
+returns-5 : tie.Need-returns-5
+returns-5 c =
     let called = c .before .before in
     let second = called .before .before in
     let first = second .before .before in
     let a = first .before .before .before .before .args in
     by-kinds (a .from) (a .to) (a .src .now) (a .dst .now) (first .enum-told3 .given .1) (second .enum-told5 .given .1) (called .floated .ensures)
 
-returns-6 : tie.Need-returns-6
-returns-6 c =
+returns-8 : tie.Need-returns-8
+returns-8 c =
     let called = c .before .before in
-    let second = called .before .before in
+    let second = called .before .before .before in
     let first = second .before .before in
     let a = first .before .before .before .before .args in
     by-kinds (a .from) (a .to) (a .src .now) (a .dst .now) (first .enum-told6 .given .1) (second .enum-told7 .given .1) (called .made-whole .ensures)
@@ -83,12 +85,14 @@ by-pair-spec =
     (λ c κs. search needs)
     (λ c. search needs)
     (λ c. search needs)
+    (λ c κs. search needs)
     narrowed-requires
     (λ c. search needs)
     floated-requires
     (λ c κs. search needs)
     (λ c. search needs)
     (λ c. search needs)
+    (λ c κs. search needs)
     made-whole-requires
     (λ c κs. search needs)
     (λ c κs. search needs)
@@ -97,13 +101,17 @@ by-pair-spec =
     (λ c. search needs)
     (λ c. search needs)
     (λ c. search needs)
-    returns-3
+    (λ c. search needs)
     (λ c. search needs)
     returns-4
     (λ c. search needs)
+    returns-5
     (λ c. search needs)
     (λ c. search needs)
-    returns-6
+    (λ c. search needs)
+    (λ c. search needs)
+    (λ c. search needs)
+    returns-8
     (λ c. search needs)
     (λ c. search needs)
     (λ c. search needs)
