@@ -57,7 +57,7 @@ number-here w (suc n) bytes (suc i) d h =
     number-here w n (drop w bytes) i d (le-of-suc-le-suc h)
     ∙ ap (λ (l : List ℕ). numberFrom (take w l)) (drop-drop (i * w) w bytes ∙ ap (λ (m : ℕ). drop m bytes) (add-comm w (i * w) ∙ sym (suc-mul i w)))
 
-numbers-take : (w n j : ℕ) (bytes : List ℕ) → j ≤ n → take j (numbersIn w n bytes) ≡ numbersIn w j bytes
+pub numbers-take : (w n j : ℕ) (bytes : List ℕ) → j ≤ n → take j (numbersIn w n bytes) ≡ numbersIn w j bytes
 unfolding numbersIn
 numbers-take w n zero bytes h = refl
 numbers-take w zero (suc j) bytes h = absurd (not-suc-le-zero h)
@@ -159,3 +159,10 @@ module _ {A : Type 0} (k : Kind) (f : A → ℕ) (s : List A) (old : List ℕ) (
 
   pub fill-end : (now : List ℕ) (i : ℕ) → length s ≤ i → Filled now i → now ≡ sets old from (bytesFor k (map f s))
   fill-end now i h g = g .1 ∙ ap (λ (l : List ℕ). sets old from (bytesFor k l)) (take-all i (map f s) (rw (length-map s f) h))
+
+  -- two pieces that are all of it
+  pub fill-two : (i j : ℕ) → i + j ≡ length s → {a b : List A} → a ≡ take i s → b ≡ take j (drop i s) → (place : ℕ) → place ≡ from + i * bytesOf k
+      → {mid new : List ℕ} → mid ≡ sets old from (bytesFor k (map f a)) → new ≡ sets mid place (bytesFor k (map f b)) → new ≡ sets old from (bytesFor k (map f s))
+  fill-two i j whole {a} p q place at {mid} {new} m e =
+      let begun : Filled mid i = (ap length m ∙ length-sets old from (bytesFor k (map f a)), m ∙ ap (λ (l : List A). sets old from (bytesFor k (map f l))) p ∙ ap (λ (l : List ℕ). sets old from (bytesFor k l)) (map-take f i s)) in
+      fill-end new (i + j) (omega arith) (fill-piece i j (omega arith) mid place at begun (e ∙ ap (λ (l : List A). sets mid place (bytesFor k (map f l))) q))

@@ -1,9 +1,9 @@
 // Blocks of the pairs that convert as rows: the samples are laid out as a row, the row call decides, and what it gave is laid into bytes.
-// Two pairs refuse no sample: their blocks are converted by short rows, which stay in the nearest cache, each laid down at once. The others
-// have one row for the whole block, so that a refusal leaves the buffer alone. RULES.md: Migration, Rows.
+// Two pairs refuse no sample: their blocks are converted by rows of 16 places, which the compiler keeps in registers, each laid down at once. The
+// others have one row for the whole block, so that a refusal leaves the buffer alone. RULES.md: Migration, Rows.
 ghost use mathlib.Core.Path.{_≡_};
 ghost use mathlib.Core.List.{map};
-ghost use Prim.Native.Nat.{ℕ, _+_, _*_, _/_, _≤_, _<_};
+ghost use Prim.Native.Nat.{ℕ, _+_, _*_, _/_, _%_, _≤_, _<_};
 ghost use lib.ListN.{length};
 ghost use lib.Seq.{sets};
 ghost use Rattle.row.specs.Row.{rowedOutcome};
@@ -18,14 +18,6 @@ use crate::layouts::store_u16s;
 use row::Rowed;
 use value::Kind;
 
-// How many of the samples that are left go into one row.
-fn least(left: usize, places: usize) -> usize
-    requires { ⌜ (0 < left) × (0 < places) ⌝ }
-    ensures { λ r. ⌜ (0 < r) × (r ≤ left) × (r ≤ places) ⌝ }
-{
-    if left < places { left } else { places }
-}
-
 // u8 to u16 by a row that has a place for each sample; its bytes from a place on.
 fn widen_row(src: &[u8], wide: &mut [u16], dst: &mut [u8], at: usize)
     requires { ⌜ (length (now src) ≡ length (now wide)) × (at + 2 * length (now src) ≤ length (now dst)) ⌝ }
@@ -35,17 +27,34 @@ fn widen_row(src: &[u8], wide: &mut [u16], dst: &mut [u8], at: usize)
     store_u16s(wide, dst, at);
 }
 
-// Row after row.
-fn widen_rows(src: &[u8], wide: &mut [u16], dst: &mut [u8])
-    requires { ⌜ (0 < length (now wide)) × (2 * length (now src) ≤ length (now dst)) ⌝ }
+// Rows of 16 samples, one after the other.
+fn widen_full(src: &[u8], wide: &mut [u16], dst: &mut [u8])
+    requires { ⌜ (length (now src) % 16 ≡ 0) × (length (now wide) ≡ 16) × (2 * length (now src) ≤ length (now dst)) ⌝ }
     ensures { λ _. ⌜ now (dst .exit) ≡ sets (now (dst .entry)) 0 (bytesFor Kind.U16 (map (λ (n : ℕ). n) (now (src .entry)))) ⌝ }
 {
     let mut i = 0;
     while i < src.len() {
-        let n = least(src.len() - i, wide.len());
-        widen_row(&src[i..i + n], &mut wide[..n], dst, 2 * i);
-        i += n;
+        widen_row(&src[i..i + 16], wide, dst, 2 * i);
+        i += 16;
     }
+}
+
+// The samples behind them.
+fn widen_rest(src: &[u8], dst: &mut [u8], at: usize)
+    requires { ⌜ (length (now src) < 16) × (at + 2 * length (now src) ≤ length (now dst)) ⌝ }
+    ensures { λ _. ⌜ now (dst .exit) ≡ sets (now (dst .entry)) at (bytesFor Kind.U16 (map (λ (n : ℕ). n) (now (src .entry)))) ⌝ }
+{
+    let mut wide = [0u16; 16];
+    widen_row(src, &mut wide[..src.len()], dst, at);
+}
+
+fn widen_rows(src: &[u8], wide: &mut [u16], dst: &mut [u8])
+    requires { ⌜ (length (now wide) ≡ 16) × (2 * length (now src) ≤ length (now dst)) ⌝ }
+    ensures { λ _. ⌜ now (dst .exit) ≡ sets (now (dst .entry)) 0 (bytesFor Kind.U16 (map (λ (n : ℕ). n) (now (src .entry)))) ⌝ }
+{
+    let end = src.len() - src.len() % 16;
+    widen_full(&src[..end], wide, dst);
+    widen_rest(&src[end..], dst, 2 * end);
 }
 
 pub(crate) fn widened(src: &[u8], dst: &mut [u8]) -> Rowed
@@ -53,7 +62,7 @@ pub(crate) fn widened(src: &[u8], dst: &mut [u8]) -> Rowed
     ensures answer { λ r. ⌜ rowedOutcome r ≡ blockAnswer Kind.U8 Kind.U16 (now (src .entry)) (length (now (dst .entry))) ⌝ }
     ensures exit { λ _. ⌜ now (dst .exit) ≡ blockExit Kind.U8 Kind.U16 (now (src .entry)) (now (dst .entry)) ⌝ }
 {
-    let mut wide = [0u16; 2048];
+    let mut wide = [0u16; 16];
     widen_rows(src, &mut wide, dst);
     Rowed::Done
 }
@@ -68,16 +77,34 @@ fn float_row(src: &[u8], wide: &mut [u16], reals: &mut [f32], dst: &mut [u8], at
     store_f32s(reals, dst, at);
 }
 
-fn float_rows(src: &[u8], samples: usize, wide: &mut [u16], reals: &mut [f32], dst: &mut [u8])
-    requires { ⌜ (0 < length (now wide)) × (length (now wide) ≡ length (now reals)) × (2 * samples ≤ length (now src)) × (4 * samples ≤ length (now dst)) ⌝ }
+// As with u8: rows of 16 samples, and the samples behind them.
+fn float_full(src: &[u8], samples: usize, wide: &mut [u16], reals: &mut [f32], dst: &mut [u8])
+    requires { ⌜ (samples % 16 ≡ 0) × (length (now wide) ≡ 16) × (length (now reals) ≡ 16) × (2 * samples ≤ length (now src)) × (4 * samples ≤ length (now dst)) ⌝ }
     ensures { λ _. ⌜ now (dst .exit) ≡ sets (now (dst .entry)) 0 (bytesFor Kind.F32 (map floatedBits (numbersIn 2 samples (now (src .entry))))) ⌝ }
 {
     let mut i = 0;
     while i < samples {
-        let n = least(samples - i, wide.len());
-        float_row(&src[2 * i..], &mut wide[..n], &mut reals[..n], dst, 4 * i);
-        i += n;
+        float_row(&src[2 * i..], wide, reals, dst, 4 * i);
+        i += 16;
     }
+}
+
+fn float_rest(src: &[u8], samples: usize, dst: &mut [u8], at: usize)
+    requires { ⌜ (samples < 16) × (2 * samples ≤ length (now src)) × (at + 4 * samples ≤ length (now dst)) ⌝ }
+    ensures { λ _. ⌜ now (dst .exit) ≡ sets (now (dst .entry)) at (bytesFor Kind.F32 (map floatedBits (numbersIn 2 samples (now (src .entry))))) ⌝ }
+{
+    let mut wide = [0u16; 16];
+    let mut reals = [0.0f32; 16];
+    float_row(src, &mut wide[..samples], &mut reals[..samples], dst, at);
+}
+
+fn float_rows(src: &[u8], samples: usize, wide: &mut [u16], reals: &mut [f32], dst: &mut [u8])
+    requires { ⌜ (length (now wide) ≡ 16) × (length (now reals) ≡ 16) × (2 * samples ≤ length (now src)) × (4 * samples ≤ length (now dst)) ⌝ }
+    ensures { λ _. ⌜ now (dst .exit) ≡ sets (now (dst .entry)) 0 (bytesFor Kind.F32 (map floatedBits (numbersIn 2 samples (now (src .entry))))) ⌝ }
+{
+    let end = samples - samples % 16;
+    float_full(src, end, wide, reals, dst);
+    float_rest(&src[2 * end..], samples - end, dst, 4 * end);
 }
 
 pub(crate) fn floated(src: &[u8], n: usize, dst: &mut [u8]) -> Rowed
@@ -85,8 +112,8 @@ pub(crate) fn floated(src: &[u8], n: usize, dst: &mut [u8]) -> Rowed
     ensures answer { λ r. ⌜ rowedOutcome r ≡ blockAnswer Kind.U16 Kind.F32 (now (src .entry)) (length (now (dst .entry))) ⌝ }
     ensures exit { λ _. ⌜ now (dst .exit) ≡ blockExit Kind.U16 Kind.F32 (now (src .entry)) (now (dst .entry)) ⌝ }
 {
-    let mut wide = [0u16; 2048];
-    let mut reals = [0.0f32; 2048];
+    let mut wide = [0u16; 16];
+    let mut reals = [0.0f32; 16];
     float_rows(src, n, &mut wide, &mut reals, dst);
     Rowed::Done
 }

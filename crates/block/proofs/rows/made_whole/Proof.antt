@@ -1,10 +1,11 @@
 -- The row has a place for each sample.
 use mathlib.Core.Path.{sym, _∙_, subst}
 use Prim.Native.Nat.{ℕ, _/_, _≤_}
-use lib.ListN.{length, replicate, length-replicate}
+use lib.ListN.{length}
 use Rattle.value.specs.declared.Kind.the-variants as kind
 use Rattle.value.specs.Kinds.{bytesOf}
 use lib.Ieee.{Float, binary32, ofBits}
+use Rattle.block.proofs.Pieces.{places}
 use borrow.Author.Needs.{needs}
 use lib.Seq.{length-take-le}
 use Rattle.block.proofs.rows.made_whole.Statement.{statement}
@@ -13,8 +14,8 @@ use Rattle.block.proofs.rows.made_whole.Tie as tie
 whole-row-requires : tie.Need-whole-row-requires
 whole-row-requires c κs =
     let s = c .before .before .before .before .before in
-    let own = length-take-le {A = ℕ} (s .args .n) (replicate 32768 0) (rw (length-replicate {A = ℕ} 32768 0) (s .pre .2)) in
-    let other = length-take-le {A = Float} (s .args .n) (replicate 32768 (ofBits binary32 0)) (rw (length-replicate {A = Float} 32768 (ofBits binary32 0)) (s .pre .2)) in
+    let own = places {A = ℕ} (s .args .n) 32768 0 (s .pre .2) in
+    let other = places {A = Float} (s .args .n) 32768 (ofBits binary32 0) (s .pre .2) in
     (other ∙ s .pre .0, other ∙ sym own, subst (λ (m : ℕ). m ≤ length (s .args .dst .now) / bytesOf kind.U16) (sym other) (s .pre .1))
 
 pub made-whole-spec : {M : Type 1} → statement M

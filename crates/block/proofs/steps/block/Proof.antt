@@ -1,10 +1,8 @@
 -- Without room it is refused; with room its samples decide.
-use mathlib.Core.Path.{_≡_, _∙_, ap}
-use Prim.Native.Nat.{ℕ, _/_, _≤_}
+use mathlib.Core.Path.{_∙_, ap}
+use Prim.Native.Nat.{ℕ, _/_}
 use lib.ListN.{length}
 use Rattle.row.specs.Row.{rowedOutcome}
-use Rattle.value.specs.Kinds.{bytesOf}
-use Rattle.block.specs.Samples.{countOf}
 use Rattle.block.proofs.Blocks.{block-short, shorter, enough}
 use borrow.Author.Needs.{needs}
 use Rattle.block.proofs.steps.block.Statement.{statement}
