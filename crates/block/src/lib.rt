@@ -15,6 +15,9 @@ pub use steps::convert_block;
 pub use steps::start;
 use value::Value;
 
+// How many places a row for a whole block has; a longer block of such a pair goes sample by sample.
+pub const ROW_PLACES: usize = 32768;
+
 // How many samples came before, and what they were answered.
 pub struct Progress {
     pub samples: usize,

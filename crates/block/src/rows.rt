@@ -11,6 +11,7 @@ ghost use Rattle.value.specs.Kinds.{bytesOf};
 ghost use Rattle.block.specs.Samples.{countOf, bytesFor};
 ghost use Rattle.block.specs.Migrate.{blockAnswer, blockExit};
 ghost use Rattle.block.specs.Steps.{numbersIn, floatedBits};
+use crate::ROW_PLACES;
 use crate::layouts::load_f32s;
 use crate::layouts::load_u16s;
 use crate::layouts::store_f32s;
@@ -133,7 +134,7 @@ pub(crate) fn narrowed(src: &[u8], n: usize, dst: &mut [u8]) -> Rowed
     ensures answer { λ r. ⌜ rowedOutcome r ≡ blockAnswer Kind.U16 Kind.U8 (now (src .entry)) (length (now (dst .entry))) ⌝ }
     ensures exit { λ _. ⌜ now (dst .exit) ≡ blockExit Kind.U16 Kind.U8 (now (src .entry)) (now (dst .entry)) ⌝ }
 {
-    let mut wide = [0u16; 32768];
+    let mut wide = [0u16; ROW_PLACES];
     narrow_row(src, &mut wide[..n], dst)
 }
 
@@ -159,7 +160,7 @@ pub(crate) fn made_whole(src: &[u8], n: usize, dst: &mut [u8]) -> Rowed
     ensures answer { λ r. ⌜ rowedOutcome r ≡ blockAnswer Kind.F32 Kind.U16 (now (src .entry)) (length (now (dst .entry))) ⌝ }
     ensures exit { λ _. ⌜ now (dst .exit) ≡ blockExit Kind.F32 Kind.U16 (now (src .entry)) (now (dst .entry)) ⌝ }
 {
-    let mut reals = [0.0f32; 32768];
-    let mut wide = [0u16; 32768];
+    let mut reals = [0.0f32; ROW_PLACES];
+    let mut wide = [0u16; ROW_PLACES];
     whole_row(src, &mut reals[..n], &mut wide[..n], dst)
 }

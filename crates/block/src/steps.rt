@@ -7,6 +7,7 @@ ghost use Rattle.value.specs.Kinds.{bytesOf};
 ghost use Rattle.block.specs.Samples.{countOf};
 ghost use Rattle.block.specs.Migrate.{placedFrom, blockAnswer, blockExit, stepSamples, stepAnswer, stepExit};
 use crate::Progress;
+use crate::ROW_PLACES;
 use crate::passes::first_refused;
 use crate::passes::write_samples;
 use crate::rows::floated;
@@ -52,7 +53,7 @@ fn one_by_one(from: Kind, to: Kind, src: &[u8], n: usize, dst: &mut [u8]) -> Row
     Rowed::Done
 }
 
-// The pairs that have rows go through the row calls, the others sample by sample. A row for a whole block has 32768 places.
+// The pairs that have rows go through the row calls, the others sample by sample.
 fn by_pair(from: Kind, to: Kind, src: &[u8], n: usize, dst: &mut [u8]) -> Rowed
     requires { ⌜ (n ≡ countOf from (now src)) × (n ≤ length (now dst) / bytesOf to) ⌝ }
     ensures answer { λ r. ⌜ rowedOutcome r ≡ blockAnswer from to (now (src .entry)) (length (now (dst .entry))) ⌝ }
@@ -64,7 +65,7 @@ fn by_pair(from: Kind, to: Kind, src: &[u8], n: usize, dst: &mut [u8]) -> Rowed
             _ => one_by_one(from, to, src, n, dst),
         },
         Kind::U16 => match to {
-            Kind::U8 => if n > 32768 {
+            Kind::U8 => if n > ROW_PLACES {
                 one_by_one(from, to, src, n, dst)
             } else {
                 narrowed(src, n, dst)
@@ -73,7 +74,7 @@ fn by_pair(from: Kind, to: Kind, src: &[u8], n: usize, dst: &mut [u8]) -> Rowed
             _ => one_by_one(from, to, src, n, dst),
         },
         Kind::F32 => match to {
-            Kind::U16 => if n > 32768 {
+            Kind::U16 => if n > ROW_PLACES {
                 one_by_one(from, to, src, n, dst)
             } else {
                 made_whole(src, n, dst)

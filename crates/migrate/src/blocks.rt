@@ -1,10 +1,13 @@
 // The blocks of a file, one after the other.
 ghost use Prim.Native.Nat.{_*_, _/_, _%_, _≤_, _<_};
 ghost use mathlib.Core.Path.{_≡_};
+ghost use lib.Dec.{eqb};
 ghost use lib.ListN.{length};
 ghost use Rattle.value.specs.Kinds.{bytesOf};
+ghost use Rattle.migrate.specs.Turns.{isNothing, turnsLeft};
 use crate::files::fill;
 use block::Progress;
+use block::ROW_PLACES;
 use block::convert_block;
 use block::start;
 use row::Rowed;
@@ -12,7 +15,10 @@ use value::Kind;
 use value::bytes_of;
 
 // Room for a block of samples, in either kind.
-pub(crate) type Buffer = [u8; 524288];
+pub(crate) type Buffer = [u8; 262144];
+
+// How many bytes are written at once where samples become wider.
+const WRITTEN_BYTES: usize = 131072;
 
 // What stopped a run before its end: nothing, or a read or a write, with the system's number.
 pub enum Fault {
@@ -36,20 +42,24 @@ pub struct Block {
 }
 
 pub(crate) fn large_buffer() -> Buffer
-    ensures { λ r. ⌜ 524288 ≡ length r ⌝ }
+    ensures { λ r. ⌜ 262144 ≡ length r ⌝ }
 {
-    [0; 524288]
+    [0; 262144]
 }
 
-// How many bytes are read at once: whole samples, with room for them in both buffers. Samples that become wider fill the second buffer, as few
-// large writes cost less than many; of the others there are as many as a row for a whole block has places for.
+// How many bytes are read at once: some samples and whole ones, with room for them in both buffers.
 pub(crate) fn block_bytes(from: Kind, to: Kind) -> usize
+    ensures some { λ r. ⌜ 0 < r ⌝ }
     ensures whole { λ r. ⌜ r % bytesOf from ≡ 0 ⌝ }
-    ensures room { λ r. ⌜ (r ≤ 524288) × (r / bytesOf from * bytesOf to ≤ 524288) ⌝ }
+    ensures room { λ r. ⌜ (r ≤ 262144) × (r / bytesOf from * bytesOf to ≤ 262144) ⌝ }
 {
     let own = bytes_of(from);
     let other = bytes_of(to);
-    let samples = if own < other { 524288 / other } else { 32768 };
+    let samples = if own < other {
+        WRITTEN_BYTES / other
+    } else {
+        ROW_PLACES
+    };
     samples * own
 }
 
@@ -107,21 +117,33 @@ fn step(
     }
 }
 
+fn is_nothing(fault: Fault) -> bool
+    ensures { λ r. ⌜ r ≡ isNothing fault ⌝ }
+{
+    match fault {
+        Fault::Nothing => true,
+        Fault::Reading(_) => false,
+        Fault::Writing(_) => false,
+    }
+}
+
 // A block that isn't full is the last one, and so is one that couldn't be written.
 pub(crate) fn turns_left(turns: u64, full: bool, fault: Fault) -> u64
     requires { ⌜ 0 < turns ⌝ }
-    ensures { λ r. ⌜ r < turns ⌝ }
+    ensures { λ r. ⌜ (r ≡ turnsLeft turns full fault) × (r < turns) ⌝ }
 {
-    match fault {
-        Fault::Nothing => { if full { turns - 1 } else { 0 } }
-        _ => 0,
+    if full {
+        if is_nothing(fault) {
+            return turns - 1;
+        }
     }
+    0
 }
 
 // Reads up to size bytes.
 pub(crate) fn read_block(input: i32, size: usize, src: &mut [u8]) -> Block
     requires { ⌜ size ≤ length (now src) ⌝ }
-    ensures { λ r. ⌜ r .bytes ≤ size ⌝ }
+    ensures { λ r. ⌜ (r .bytes ≤ size) × (r .full ≡ eqb (r .bytes) size) ⌝ }
 {
     let got = fill(input, &mut src[..size]);
     Block {
@@ -146,8 +168,8 @@ fn convert(
 
 // How many bytes the samples of a block are in the other kind.
 fn output_bytes(from: Kind, to: Kind, bytes: usize) -> usize
-    requires { ⌜ bytes / bytesOf from * bytesOf to ≤ 524288 ⌝ }
-    ensures { λ r. ⌜ r ≤ 524288 ⌝ }
+    requires { ⌜ bytes / bytesOf from * bytesOf to ≤ 262144 ⌝ }
+    ensures { λ r. ⌜ r ≡ bytes / bytesOf from * bytesOf to ⌝ }
 {
     let samples = bytes / bytes_of(from);
     samples * bytes_of(to)
@@ -162,7 +184,7 @@ fn write_block(
     dst: &[u8],
     bytes: usize,
 ) -> Fault
-    requires { ⌜ (bytes / bytesOf from * bytesOf to ≤ 524288) × (length (now dst) ≡ 524288) ⌝ }
+    requires { ⌜ (bytes / bytesOf from * bytesOf to ≤ 262144) × (length (now dst) ≡ 262144) ⌝ }
 {
     let answer = progress.answer;
     match answer {

@@ -11,7 +11,7 @@ write-block-requires c κs =
     let read = c .before .before .before .before .before .before .before in
     let sized = read .before .before in
     let a = sized .before .before .args in
-    (fewer-room (read .read-block .result .bytes) (sized .block-bytes .result) (bytesOf (a .from)) (bytesOf (a .to)) (bytes-range (a .from) .0) (read .read-block .ensures) (sized .block-bytes .ensures .1 .1), search needs)
+    (fewer-room (read .read-block .result .bytes) (sized .block-bytes .result) (bytesOf (a .from)) (bytesOf (a .to)) (bytes-range (a .from) .0) (read .read-block .ensures .0) (sized .block-bytes .ensures .1 .1 .1), search needs)
 
 pub step-spec : {M : Type 1} → statement M
 step-spec =
