@@ -9,16 +9,14 @@ mod samples;
 mod steps;
 
 pub use looks::look_block;
-pub use looks::nothing_seen;
 use row::Rowed;
 pub use steps::convert_block;
-pub use steps::start;
 use value::Value;
 
 // How many places a row for a whole block has; a longer block of such a pair goes sample by sample.
 pub const ROW_PLACES: usize = 32768;
 
-// How many samples came before, and what they were answered.
+// How many samples came before, and what they were answered; before the first, none and Done.
 pub struct Progress {
     pub samples: usize,
     pub answer: Rowed,
@@ -31,7 +29,7 @@ pub enum Found {
 }
 
 // What was seen of samples: how many there were, how many of them are NaN, the lowest and the highest, how many a conversion would refuse,
-// and what it would answer.
+// and what it would answer; before the first, none, Nothing and Done.
 pub struct Seen {
     pub samples: usize,
     pub nans: usize,

@@ -8,7 +8,7 @@ ghost use Rattle.value.specs.Kinds.{bytesOf};
 ghost use Rattle.block.specs.Samples.{samplesIn};
 ghost use Rattle.block.specs.Migrate.{bitsTo};
 ghost use Rattle.block.specs.Steps.{refusedTo};
-ghost use Rattle.block.specs.Report.{says, isNan, lowerOf, higherOf, countIf, firstOf, notedOf, nothingSeen, allNoted, leftNoted, lookOf};
+ghost use Rattle.block.specs.Report.{says, isNan, lowerOf, higherOf, countIf, firstOf, notedOf, allNoted, leftNoted, lookOf};
 use crate::Found;
 use crate::Seen;
 use crate::samples::is_refused;
@@ -24,20 +24,6 @@ use std::num::wrapping_add_usize;
 use value::Kind;
 use value::Value;
 use value::bytes_of;
-
-// No samples yet.
-pub fn nothing_seen() -> Seen
-    ensures { λ r. ⌜ r ≡ nothingSeen ⌝ }
-{
-    Seen {
-        samples: 0,
-        nans: 0,
-        lowest: Found::Nothing,
-        highest: Found::Nothing,
-        refusable: 0,
-        answer: Rowed::Done,
-    }
-}
 
 fn is_yes(t: Tested) -> bool
     ensures { λ r. ⌜ r ≡ says (testedOutcome t) ⌝ }

@@ -22,16 +22,6 @@ use value::Kind;
 use value::Refusal;
 use value::bytes_of;
 
-// No samples yet, and nothing refused.
-pub fn start() -> Progress
-    ensures { λ r. ⌜ r ≡ record { samples = 0; answer = Rowed.Done } ⌝ }
-{
-    Progress {
-        samples: 0,
-        answer: Rowed::Done,
-    }
-}
-
 pub(crate) fn refused(number: u8, place: usize) -> Rowed
     ensures { λ r. ⌜ r ≡ Rowed.Refused (record { number = number; place = place }) ⌝ }
 {

@@ -9,7 +9,6 @@ use crate::files::fill;
 use block::Progress;
 use block::ROW_PLACES;
 use block::convert_block;
-use block::start;
 use row::Rowed;
 use value::Kind;
 use value::bytes_of;
@@ -61,6 +60,16 @@ pub(crate) fn block_bytes(from: Kind, to: Kind) -> usize
         ROW_PLACES
     };
     samples * own
+}
+
+// No samples yet, and nothing refused.
+fn start() -> Progress
+    ensures { λ r. ⌜ r ≡ record { samples = 0; answer = Rowed.Done } ⌝ }
+{
+    Progress {
+        samples: 0,
+        answer: Rowed::Done,
+    }
 }
 
 // Moves the whole of input to output.

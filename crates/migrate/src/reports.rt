@@ -1,6 +1,8 @@
 // A report on a file of samples: read through, nothing written but lines. What looks at a block is block::look_block.
 ghost use Prim.Native.Nat.{_≤_, _<_};
+ghost use mathlib.Core.Path.{_≡_};
 ghost use lib.ListN.{length};
+ghost use Rattle.block.specs.Report.{nothingSeen};
 use crate::blocks::Buffer;
 use crate::blocks::Fault;
 use crate::blocks::block_bytes;
@@ -12,9 +14,9 @@ use crate::lines::put_failure;
 use crate::lines::put_found;
 use crate::lines::put_number;
 use crate::moves::open_in;
+use block::Found;
 use block::Seen;
 use block::look_block;
-use block::nothing_seen;
 use row::Rowed;
 use value::Kind;
 
@@ -33,6 +35,20 @@ pub(crate) fn report(from: Kind, to: Kind, asked: bool, in_arg: usize) {
         let r = look_through(input, from, to, &mut src);
         libc::close(input);
         put_look(r, asked);
+    }
+}
+
+// No samples yet.
+fn nothing_seen() -> Seen
+    ensures { λ r. ⌜ r ≡ nothingSeen ⌝ }
+{
+    Seen {
+        samples: 0,
+        nans: 0,
+        lowest: Found::Nothing,
+        highest: Found::Nothing,
+        refusable: 0,
+        answer: Rowed::Done,
     }
 }
 
