@@ -4,6 +4,7 @@ use mathlib.Core.Bool.{Bool, true, false, cond}
 use Rattle.migrate.specs.declared.blocks.Fault.{Fault}
 use Rattle.migrate.specs.declared.blocks.Fault.the-variants.{Nothing, Reading, Writing}
 
+-- No read and no write failed.
 abbrev pub isNothing : Fault → Bool
 isNothing Nothing = true
 isNothing (Reading errno) = false

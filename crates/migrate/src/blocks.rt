@@ -46,7 +46,7 @@ pub(crate) fn large_buffer() -> Buffer
     [0; 262144]
 }
 
-// How many bytes are read at once: some samples and whole ones, with room for them in both buffers.
+// How many bytes are read at once: some samples and whole ones, with room for them in both buffers. Why so many: docs/DECISIONS.md, Blocks by pair.
 pub(crate) fn block_bytes(from: Kind, to: Kind) -> usize
     ensures some { λ r. ⌜ 0 < r ⌝ }
     ensures whole { λ r. ⌜ r % bytesOf from ≡ 0 ⌝ }
