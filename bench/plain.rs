@@ -48,7 +48,7 @@ fn main() -> std::io::Result<()> {
     let mut output = File::create(&words[4])?;
     let samples = match words.len() {
         6 => number(5),
-        _ if from < to => 131072 / to,
+        _ if from < to => 262144 / to,
         _ => 32768,
     };
     let mut src = vec![0u8; samples * from];

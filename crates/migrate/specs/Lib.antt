@@ -1,1 +1,4 @@
+pub mod Sizes
 pub mod Turns
+pub mod Steps
+pub mod Runs

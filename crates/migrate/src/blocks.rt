@@ -2,9 +2,12 @@
 ghost use Prim.Native.Nat.{_*_, _/_, _%_, _≤_, _<_};
 ghost use mathlib.Core.Path.{_≡_};
 ghost use lib.Dec.{eqb};
-ghost use lib.ListN.{length};
+ghost use lib.ListN.{length, take};
 ghost use Rattle.value.specs.Kinds.{bytesOf};
-ghost use Rattle.migrate.specs.Turns.{isNothing, turnsLeft};
+ghost use Rattle.migrate.specs.Sizes.{bufferBytes, blockBytes};
+ghost use Rattle.migrate.specs.Steps.{Converted, Stepped};
+ghost use Rattle.migrate.specs.Runs.{Runs};
+ghost use Rattle.migrate.specs.Turns.{isNothing, turnsLeft, WritingOnly};
 use crate::files::fill;
 use block::Progress;
 use block::ROW_PLACES;
@@ -13,11 +16,10 @@ use row::Rowed;
 use value::Kind;
 use value::bytes_of;
 
-// Room for a block of samples, in either kind.
-pub(crate) type Buffer = [u8; 262144];
+// Room for a block of samples, in either kind. Why so much: docs/DECISIONS.md, Blocks by pair.
+const BUFFER_BYTES: usize = 262144;
 
-// How many bytes are written at once where samples become wider.
-const WRITTEN_BYTES: usize = 131072;
+pub(crate) type Buffer = [u8; BUFFER_BYTES];
 
 // What stopped a run before its end: nothing, or a read or a write, with the system's number.
 pub enum Fault {
@@ -41,21 +43,22 @@ pub struct Block {
 }
 
 pub(crate) fn large_buffer() -> Buffer
-    ensures { λ r. ⌜ 262144 ≡ length r ⌝ }
+    ensures { λ r. ⌜ bufferBytes ≡ length r ⌝ }
 {
-    [0; 262144]
+    [0; BUFFER_BYTES]
 }
 
-// How many bytes are read at once: some samples and whole ones, with room for them in both buffers. Why so many: docs/DECISIONS.md, Blocks by pair.
+// How many bytes are read at once: some samples and whole ones, with room for them in both buffers. Samples that become wider fill the second one.
 pub(crate) fn block_bytes(from: Kind, to: Kind) -> usize
+    ensures size { λ r. ⌜ r ≡ blockBytes from to ⌝ }
     ensures some { λ r. ⌜ 0 < r ⌝ }
     ensures whole { λ r. ⌜ r % bytesOf from ≡ 0 ⌝ }
-    ensures room { λ r. ⌜ (r ≤ 262144) × (r / bytesOf from * bytesOf to ≤ 262144) ⌝ }
+    ensures room { λ r. ⌜ (r ≤ bufferBytes) × (r / bytesOf from * bytesOf to ≤ bufferBytes) ⌝ }
 {
     let own = bytes_of(from);
     let other = bytes_of(to);
     let samples = if own < other {
-        WRITTEN_BYTES / other
+        BUFFER_BYTES / other
     } else {
         ROW_PLACES
     };
@@ -80,7 +83,9 @@ pub(crate) fn run(
     to: Kind,
     src: &mut Buffer,
     dst: &mut Buffer,
-) -> State {
+) -> State
+    ensures { λ r. ⌜ Runs from to r ⌝ }
+{
     let mut r = State {
         progress: start(),
         fault: Fault::Nothing,
@@ -106,7 +111,8 @@ fn step(
     r: State,
 ) -> State
     requires { ⌜ 0 < r .turns ⌝ }
-    ensures { λ next. ⌜ next .turns < r .turns ⌝ }
+    ensures fewer { λ next. ⌜ next .turns < r .turns ⌝ }
+    ensures step { λ next. ⌜ Stepped from to r (now (src .exit)) (now (dst .entry)) (now (dst .exit)) next ⌝ }
 {
     let before = r.progress;
     let got = read_block(input, block_bytes(from, to), src);
@@ -162,6 +168,7 @@ pub(crate) fn read_block(input: i32, size: usize, src: &mut [u8]) -> Block
     }
 }
 
+// Only the bytes that were read, not what an earlier block left behind them.
 fn convert(
     before: Progress,
     from: Kind,
@@ -171,13 +178,14 @@ fn convert(
     dst: &mut [u8],
 ) -> Progress
     requires { ⌜ bytes ≤ length (now src) ⌝ }
+    ensures { λ r. ⌜ Converted from to before (take bytes (now (src .entry))) (now (dst .entry)) (now (dst .exit)) r ⌝ }
 {
     convert_block(before, from, to, &src[..bytes], dst)
 }
 
 // How many bytes the samples of a block are in the other kind.
 fn output_bytes(from: Kind, to: Kind, bytes: usize) -> usize
-    requires { ⌜ bytes / bytesOf from * bytesOf to ≤ 262144 ⌝ }
+    requires { ⌜ bytes / bytesOf from * bytesOf to ≤ bufferBytes ⌝ }
     ensures { λ r. ⌜ r ≡ bytes / bytesOf from * bytesOf to ⌝ }
 {
     let samples = bytes / bytes_of(from);
@@ -193,7 +201,8 @@ fn write_block(
     dst: &[u8],
     bytes: usize,
 ) -> Fault
-    requires { ⌜ (bytes / bytesOf from * bytesOf to ≤ 262144) × (length (now dst) ≡ 262144) ⌝ }
+    requires { ⌜ (bytes / bytesOf from * bytesOf to ≤ bufferBytes) × (length (now dst) ≡ bufferBytes) ⌝ }
+    ensures { λ r. ⌜ WritingOnly (progress .answer) r ⌝ }
 {
     let answer = progress.answer;
     match answer {

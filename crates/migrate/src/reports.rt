@@ -1,8 +1,10 @@
 // A report on a file of samples: read through, nothing written but lines. What looks at a block is block::look_block.
 ghost use Prim.Native.Nat.{_≤_, _<_};
 ghost use mathlib.Core.Path.{_≡_};
-ghost use lib.ListN.{length};
-ghost use Rattle.block.specs.Report.{nothingSeen};
+ghost use lib.ListN.{length, take};
+ghost use Rattle.block.specs.Report.{nothingSeen, lookOf};
+ghost use Rattle.migrate.specs.Steps.{Looked};
+ghost use Rattle.migrate.specs.Runs.{Looks};
 use crate::blocks::Buffer;
 use crate::blocks::Fault;
 use crate::blocks::block_bytes;
@@ -52,7 +54,9 @@ fn nothing_seen() -> Seen
     }
 }
 
-fn look_through(input: i32, from: Kind, to: Kind, src: &mut Buffer) -> Look {
+fn look_through(input: i32, from: Kind, to: Kind, src: &mut Buffer) -> Look
+    ensures { λ r. ⌜ Looks from to r ⌝ }
+{
     let mut r = Look {
         seen: nothing_seen(),
         fault: Fault::Nothing,
@@ -70,7 +74,8 @@ fn look_through(input: i32, from: Kind, to: Kind, src: &mut Buffer) -> Look {
 // Reads a block and looks at it.
 fn look_on(input: i32, from: Kind, to: Kind, src: &mut Buffer, r: Look) -> Look
     requires { ⌜ 0 < r .turns ⌝ }
-    ensures { λ next. ⌜ next .turns < r .turns ⌝ }
+    ensures fewer { λ next. ⌜ next .turns < r .turns ⌝ }
+    ensures step { λ next. ⌜ Looked from to r (now (src .exit)) next ⌝ }
 {
     let before = r.seen;
     let got = read_block(input, block_bytes(from, from), src);
@@ -88,8 +93,10 @@ fn look_on(input: i32, from: Kind, to: Kind, src: &mut Buffer, r: Look) -> Look
     }
 }
 
+// Only the bytes that were read.
 fn look_at(before: Seen, from: Kind, to: Kind, src: &[u8], bytes: usize) -> Seen
     requires { ⌜ bytes ≤ length (now src) ⌝ }
+    ensures { λ r. ⌜ r ≡ lookOf from to before (take bytes (now (src .entry))) ⌝ }
 {
     look_block(before, from, to, &src[..bytes])
 }

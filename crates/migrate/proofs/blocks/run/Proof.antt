@@ -1,13 +1,21 @@
--- Each step leaves fewer turns.
+-- Each turn leaves fewer and leads on.
 use borrow.Author.Needs.{needs}
+use Rattle.migrate.proofs.Runs.{Reaches, at-beginning, next-turn}
 use Rattle.migrate.proofs.blocks.run.Statement.{statement}
 use Rattle.migrate.proofs.blocks.run.Tie as tie
 
 abbrev Inv-loop : tie.InvT-loop
-Inv-loop input output from to src₀ dst₀ r₀ src dst r = Unit {0}
+Inv-loop input output from to src₀ dst₀ r₀ src dst r = Reaches from to r
 
 abbrev μ-loop : tie.MeasureT-loop
 μ-loop input output from to src₀ dst₀ r₀ src dst r = r .turns
+
+led-on : tie.Need-loop-again Inv-loop μ-loop
+led-on c =
+    let stepped = c .before .before in
+    let then = stepped .before .before .before .before in
+    let at = then .before .before in
+    next-turn (at .before .before .args .from) (at .before .before .args .to) (at .loop .r) (stepped .step .result) _ _ _ (at .loop .inv) (then .if1 .taken) (stepped .step .ensures .1)
 
 pub run-spec : {M : Type 1} → statement M
 run-spec =
@@ -16,9 +24,9 @@ run-spec =
     Inv-loop
     μ-loop
     (λ c κs. search needs)
-    (λ c. tt)
+    (λ c. at-beginning (c .before .args .from) (c .before .args .to) (c .start .result) (c .start .ensures))
     (λ c κs. search needs)
     (λ c κs. search needs)
     (λ c. search needs)
-    (λ c. tt)
-    (λ c. search needs))
+    led-on
+    (λ c. (c .before .before .loop .inv, search needs)))

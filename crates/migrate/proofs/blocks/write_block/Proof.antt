@@ -1,9 +1,23 @@
 -- What is written is a part of the buffer.
-use mathlib.Core.Path.{sym}
+use mathlib.Core.Bool.{false}
+use mathlib.Core.Path.{_≡_, refl, sym}
+use Rattle.value.specs.declared.Refusal.{Refusal}
+use Rattle.row.specs.declared.Rowed.{Rowed}
+use Rattle.row.specs.declared.Rowed.the-variants.{Done, Refused}
+use Rattle.migrate.specs.declared.blocks.Fault.{Fault}
+use Rattle.migrate.specs.declared.blocks.Fault.the-variants.{Nothing}
+use Rattle.migrate.specs.Turns.{isReading, WritingOnly}
 use borrow.Author.Needs.{needs}
 use lib.Seq.{length-take-le}
 use Rattle.migrate.proofs.blocks.write_block.Statement.{statement}
 use Rattle.migrate.proofs.blocks.write_block.Tie as tie
+
+-- the answer tells what can have failed
+only-writing : (answer : Rowed) (fault : Fault) → answer ≡ Done → isReading fault ≡ false → WritingOnly answer fault
+only-writing answer fault q h = rw q h
+
+unwritten : (answer : Rowed) {f : Refusal} → answer ≡ Refused f → WritingOnly answer Nothing
+unwritten answer q = rw q refl
 
 pub write-block-spec : {M : Type 1} → statement M
 write-block-spec =
@@ -15,6 +29,6 @@ write-block-spec =
     (λ c κs. search needs)
     (λ c κs. search needs)
     (λ c. search needs)
-    (λ c. search needs)
-    (λ c. search needs)
-    (λ c. search needs))
+    (λ c. only-writing _ _ (c .before .before .before .before .enum-told .given .1) refl)
+    (λ c. only-writing _ _ (c .before .before .before .before .before .enum-told .given .1) refl)
+    (λ c. unwritten _ (c .enum-told2 .given .1)))

@@ -1,13 +1,21 @@
--- Each step leaves fewer turns.
+-- Each turn leaves fewer and leads on.
 use borrow.Author.Needs.{needs}
+use Rattle.migrate.proofs.Runs.{LooksTo, unlooked, next-look}
 use Rattle.migrate.proofs.reports.look_through.Statement.{statement}
 use Rattle.migrate.proofs.reports.look_through.Tie as tie
 
 abbrev Inv-loop : tie.InvT-loop
-Inv-loop input from to src₀ r₀ src r = Unit {0}
+Inv-loop input from to src₀ r₀ src r = LooksTo from to r
 
 abbrev μ-loop : tie.MeasureT-loop
 μ-loop input from to src₀ r₀ src r = r .turns
+
+led-on : tie.Need-loop-again Inv-loop μ-loop
+led-on c =
+    let looked = c .before .before in
+    let then = looked .before .before .before in
+    let at = then .before .before in
+    next-look (at .before .before .args .from) (at .before .before .args .to) (at .loop .r) (looked .look-on .result) _ (at .loop .inv) (then .if1 .taken) (looked .look-on .ensures .1)
 
 pub look-through-spec : {M : Type 1} → statement M
 look-through-spec =
@@ -16,9 +24,9 @@ look-through-spec =
     Inv-loop
     μ-loop
     (λ c κs. search needs)
-    (λ c. tt)
+    (λ c. unlooked (c .before .args .from) (c .before .args .to) (c .nothing-seen .result) (c .nothing-seen .ensures))
     (λ c κs. search needs)
     (λ c κs. search needs)
     (λ c. search needs)
-    (λ c. tt)
-    (λ c. search needs))
+    led-on
+    (λ c. (c .before .before .loop .inv, search needs)))
