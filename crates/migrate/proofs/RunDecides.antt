@@ -1,4 +1,4 @@
--- What a run answers and hands to a write, and what a report tells, is what the blocks that were read come to as a whole.
+-- What a run answers and hands to a write, and what a report tells, is what all blocks that it took come to as a whole.
 use Prim.Native.Nat.{ℕ, _*_, _/_, _%_, _^_, _≤_, _<_}
 use native.Mathlib.Nat.{le-div-iff-mul-le}
 use native.Mathlib.Omega.{arith}

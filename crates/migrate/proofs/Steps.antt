@@ -1,4 +1,4 @@
--- A block that was read, by the size that was asked for.
+-- A block that was read, as the front of the buffer.
 use Prim.Native.Nat.{ℕ, _≤_}
 use mathlib.Core.Bool.{Bool}
 use mathlib.Core.List.{List}
@@ -12,14 +12,14 @@ use Rattle.migrate.specs.Sizes.{blockBytes}
 use Rattle.migrate.specs.Steps.{ReadInto}
 use Rattle.migrate.specs.Turns.{turnsLeft}
 
-module _ (from to : Kind) (buffer : List ℕ) (n size : ℕ) (inside : n ≤ length buffer) (asked : size ≡ blockBytes from to) where
+module _ (from to : Kind) (buffer : List ℕ) (n : ℕ) (inside : n ≤ length buffer) where
   many : length (take n buffer) ≡ n
   many = length-take-le n buffer inside
 
-  -- no more than that
-  pub read-into : n ≤ size → ReadInto from to buffer (take n buffer)
-  read-into h = (sym (ap (λ (k : ℕ). take k buffer) many), rw (many, ← asked) h)
+  -- no more than was asked for
+  pub read-into : (size : ℕ) → size ≡ blockBytes from to → n ≤ size → ReadInto from to buffer (take n buffer)
+  read-into size asked h = (sym (ap (λ (k : ℕ). take k buffer) many), rw (many, ← asked) h)
 
   -- whether it is full decides if the run goes on
-  pub by-size : (t turns : ℕ) (full : Bool) (fault : Fault) → t ≡ turnsLeft turns full fault → full ≡ eqb n size → t ≡ turnsLeft turns (eqb (length (take n buffer)) (blockBytes from to)) fault
-  by-size t turns full fault p f = p ∙ ap (λ (b : Bool). turnsLeft turns b fault) (f ∙ ap (eqb n) asked ∙ sym (ap (λ (k : ℕ). eqb k (blockBytes from to)) many))
+  pub by-size : (t turns : ℕ) (full : Bool) (fault : Fault) → t ≡ turnsLeft turns full fault → full ≡ eqb n (blockBytes from to) → t ≡ turnsLeft turns (eqb (length (take n buffer)) (blockBytes from to)) fault
+  by-size t turns full fault p f = p ∙ ap (λ (b : Bool). turnsLeft turns b fault) (f ∙ sym (ap (λ (k : ℕ). eqb k (blockBytes from to)) many))

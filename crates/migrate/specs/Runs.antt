@@ -1,4 +1,4 @@
--- Whole runs, by the blocks that were read and the bytes that were handed to a write. RULES.md: Migration, Report.
+-- Whole runs, by the blocks that they took and the bytes that were handed to a write. RULES.md: Migration, Report.
 use Prim.Native.Nat.{ℕ, _-_, _*_, _^_, _≤_, _<_}
 use mathlib.Core.Path.{_≡_}
 use mathlib.Core.List.{List, [], _∷_, _++_}
@@ -62,7 +62,7 @@ Ran from to = Chain (λ m. m .state .turns) (MovesBlock from to) MoveFails begin
 abbrev pub Runs : Kind → Kind → State → Type 0
 Runs from to r = ((bs : List (List ℕ)) × (written : List ℕ) × Ran from to bs (record { state = r; written = written })) × (r .turns ≡ 0)
 
--- what a run answers is the answer of all that it read, and what was handed to a write is that migrated: the lowest bad sample decides
+-- what a run answers is the answer of all its blocks joined, and what was handed to a write is that migrated: the lowest bad sample decides
 abbrev pub RunDecides : Type 0
 RunDecides =
     (from to : Kind) (bs : List (List ℕ)) (m : Moving) → Ran from to bs m → length (joined bs) < 2 ^ 64
@@ -83,6 +83,6 @@ LookedThrough from to = Chain (λ s. s .turns) (LooksAtBlock from to) LookFailed
 abbrev pub Looks : Kind → Kind → Look → Type 0
 Looks from to r = ((bs : List (List ℕ)) × LookedThrough from to bs r) × (r .turns ≡ 0)
 
--- what a report saw is what all that it read has
+-- what a report saw is what all its blocks have, joined
 abbrev pub LookDecides : Type 0
 LookDecides = (from to : Kind) (bs : List (List ℕ)) (r : Look) → LookedThrough from to bs r → length (joined bs) < 2 ^ 64 → Tells from to (joined bs) (r .seen)

@@ -5,7 +5,7 @@ ghost use lib.Dec.{eqb};
 ghost use lib.ListN.{length, take};
 ghost use Rattle.value.specs.Kinds.{bytesOf};
 ghost use Rattle.migrate.specs.Sizes.{bufferBytes, blockBytes};
-ghost use Rattle.migrate.specs.Steps.{Converted, Stepped};
+ghost use Rattle.migrate.specs.Steps.{Converted, MovedOn, Stepped};
 ghost use Rattle.migrate.specs.Runs.{Runs};
 ghost use Rattle.migrate.specs.Turns.{isNothing, turnsLeft, WritingOnly};
 use crate::files::fill;
@@ -123,7 +123,24 @@ fn step(
             turns: 0,
         };
     }
-    let progress = convert(before, from, to, src, got.bytes, dst);
+    move_on(got, output, from, to, src, dst, r)
+}
+
+// What was read, and no more, is the next block.
+fn move_on(
+    got: Block,
+    output: i32,
+    from: Kind,
+    to: Kind,
+    src: &[u8],
+    dst: &mut [u8],
+    r: State,
+) -> State
+    requires { ⌜ (0 < r .turns) × (got .bytes ≤ length (now src)) × (got .bytes ≤ blockBytes from to) × (got .full ≡ eqb (got .bytes) (blockBytes from to)) × (length (now dst) ≡ bufferBytes) ⌝ }
+    ensures fewer { λ next. ⌜ next .turns < r .turns ⌝ }
+    ensures step { λ next. ⌜ MovedOn from to r (take (got .bytes) (now (src .entry))) (now (dst .entry)) (now (dst .exit)) next ⌝ }
+{
+    let progress = convert(r.progress, from, to, src, got.bytes, dst);
     let fault = write_block(output, progress, from, to, dst, got.bytes);
     State {
         progress,

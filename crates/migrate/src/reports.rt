@@ -1,10 +1,13 @@
 // A report on a file of samples: read through, nothing written but lines. What looks at a block is block::look_block.
 ghost use Prim.Native.Nat.{_≤_, _<_};
 ghost use mathlib.Core.Path.{_≡_};
+ghost use lib.Dec.{eqb};
 ghost use lib.ListN.{length, take};
-ghost use Rattle.block.specs.Report.{nothingSeen, lookOf};
-ghost use Rattle.migrate.specs.Steps.{Looked};
+ghost use Rattle.block.specs.Report.{nothingSeen};
+ghost use Rattle.migrate.specs.Steps.{LookedOn, Looked};
+ghost use Rattle.migrate.specs.Sizes.{blockBytes};
 ghost use Rattle.migrate.specs.Runs.{Looks};
+use crate::blocks::Block;
 use crate::blocks::Buffer;
 use crate::blocks::Fault;
 use crate::blocks::block_bytes;
@@ -86,19 +89,21 @@ fn look_on(input: i32, from: Kind, to: Kind, src: &mut Buffer, r: Look) -> Look
             turns: 0,
         };
     }
+    look_at(got, from, to, src, r)
+}
+
+// What was read, and no more, is the next block.
+fn look_at(got: Block, from: Kind, to: Kind, src: &[u8], r: Look) -> Look
+    requires { ⌜ (0 < r .turns) × (got .bytes ≤ length (now src)) × (got .full ≡ eqb (got .bytes) (blockBytes from from)) ⌝ }
+    ensures fewer { λ next. ⌜ next .turns < r .turns ⌝ }
+    ensures step { λ next. ⌜ LookedOn from to r (take (got .bytes) (now (src .entry))) next ⌝ }
+{
+    let before = r.seen;
     Look {
-        seen: look_at(before, from, to, src, got.bytes),
+        seen: look_block(before, from, to, &src[..got.bytes]),
         fault: Fault::Nothing,
         turns: turns_left(r.turns, got.full, Fault::Nothing),
     }
-}
-
-// Only the bytes that were read.
-fn look_at(before: Seen, from: Kind, to: Kind, src: &[u8], bytes: usize) -> Seen
-    requires { ⌜ bytes ≤ length (now src) ⌝ }
-    ensures { λ r. ⌜ r ≡ lookOf from to before (take bytes (now (src .entry))) ⌝ }
-{
-    look_block(before, from, to, &src[..bytes])
 }
 
 fn put_look(r: Look, asked: bool) {
