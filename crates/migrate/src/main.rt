@@ -1,5 +1,5 @@
-// Moves a file of samples from one kind to another, exactly or not at all: `migrate FROM TO IN OUT`; or looks at it before: `migrate report
-// FROM IN [TO]`. The answer is lines on standard output (docs/RULES.md: Migration, Report). What converts a block is block::convert_block, and
+// Moves a file of samples from one kind to another, exactly or not at all: `migrate FROM TO IN OUT [made]`; or looks at it before: `migrate
+// report FROM IN [TO]`. The answer is lines on standard output (docs/RULES.md: Migration, Report). What converts a block is block::convert_block, and
 // what looks at one block::look_block; here are only files, arguments and lines.
 mod blocks;
 mod files;
@@ -17,26 +17,27 @@ use value::KindFound;
 
 fn main() {
     let count = os::arg_count();
-    let asked = is_report();
+    let asked = says(1, b"report");
+    let made = says(5, b"made");
     if asked & (count == 4) {
         report_alone();
     } else if asked & (count == 5) {
         report_to();
-    } else if count == 5 {
-        move_file();
+    } else if (count == 5) | (made & (count == 6)) {
+        move_file(made);
     } else {
-        put_error(b"usage: migrate FROM TO IN OUT, or migrate report FROM IN [TO]");
+        put_error(b"usage: migrate FROM TO IN OUT [made], or migrate report FROM IN [TO]");
     }
 }
 
-// Whether the first argument says so; it names no kind.
-fn is_report() -> bool {
+// Whether an argument is this word.
+fn says(i: usize, word: &[u8]) -> bool {
     let mut name = [0u8; 8];
-    let n = os::arg(1, &mut name);
-    word_number(&name[..n], b"report") == 0
+    let n = os::arg(i, &mut name);
+    word_number(&name[..n], word) == 0
 }
 
-fn move_file() {
+fn move_file(made: bool) {
     let KindFound::Is(from) = kind_in(1) else {
         put_no_kind(b"FROM");
         return;
@@ -45,7 +46,7 @@ fn move_file() {
         put_no_kind(b"TO");
         return;
     };
-    migrate(from, to, 3, 4);
+    migrate(from, to, 3, 4, made);
 }
 
 fn report_alone() {
