@@ -34,6 +34,10 @@ bitsFor to v = bitsIn (bitsTo to v)
 
 -- ---- a block as a row
 
+-- the places of a row for a whole block
+abbrev pub rowPlaces : ℕ
+rowPlaces = 32768
+
 -- the numbers of the first n samples of w bytes
 unfoldable pub numbersIn : ℕ → ℕ → List ℕ → List ℕ
 numbersIn w zero bytes = []

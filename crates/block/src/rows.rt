@@ -10,7 +10,7 @@ ghost use Rattle.row.specs.Row.{rowedOutcome};
 ghost use Rattle.value.specs.Kinds.{bytesOf};
 ghost use Rattle.block.specs.Samples.{countOf, bytesFor};
 ghost use Rattle.block.specs.Migrate.{blockAnswer, blockExit};
-ghost use Rattle.block.specs.Steps.{numbersIn, floatedBits};
+ghost use Rattle.block.specs.Steps.{rowPlaces, numbersIn, floatedBits};
 use crate::ROW_PLACES;
 use crate::layouts::load_f32s;
 use crate::layouts::load_u16s;
@@ -130,7 +130,7 @@ fn narrow_row(src: &[u8], wide: &mut [u16], dst: &mut [u8]) -> Rowed
 }
 
 pub(crate) fn narrowed(src: &[u8], n: usize, dst: &mut [u8]) -> Rowed
-    requires { ⌜ (n ≡ countOf Kind.U16 (now src)) × (n ≤ length (now dst) / bytesOf Kind.U8) × (n ≤ 32768) ⌝ }
+    requires { ⌜ (n ≡ countOf Kind.U16 (now src)) × (n ≤ length (now dst) / bytesOf Kind.U8) × (n ≤ rowPlaces) ⌝ }
     ensures answer { λ r. ⌜ rowedOutcome r ≡ blockAnswer Kind.U16 Kind.U8 (now (src .entry)) (length (now (dst .entry))) ⌝ }
     ensures exit { λ _. ⌜ now (dst .exit) ≡ blockExit Kind.U16 Kind.U8 (now (src .entry)) (now (dst .entry)) ⌝ }
 {
@@ -156,7 +156,7 @@ fn whole_row(src: &[u8], reals: &mut [f32], wide: &mut [u16], dst: &mut [u8]) ->
 }
 
 pub(crate) fn made_whole(src: &[u8], n: usize, dst: &mut [u8]) -> Rowed
-    requires { ⌜ (n ≡ countOf Kind.F32 (now src)) × (n ≤ length (now dst) / bytesOf Kind.U16) × (n ≤ 32768) ⌝ }
+    requires { ⌜ (n ≡ countOf Kind.F32 (now src)) × (n ≤ length (now dst) / bytesOf Kind.U16) × (n ≤ rowPlaces) ⌝ }
     ensures answer { λ r. ⌜ rowedOutcome r ≡ blockAnswer Kind.F32 Kind.U16 (now (src .entry)) (length (now (dst .entry))) ⌝ }
     ensures exit { λ _. ⌜ now (dst .exit) ≡ blockExit Kind.F32 Kind.U16 (now (src .entry)) (now (dst .entry)) ⌝ }
 {

@@ -12,7 +12,8 @@ use Rattle.float.proofs.Naturals.{lt-or-ge}
 use Rattle.value.specs.declared.Kind.{Kind}
 use Rattle.value.specs.Kinds.{bytesOf}
 use Rattle.value.proofs.Widths.{bytes-range}
-use Rattle.migrate.specs.Sizes.{bufferBytes, rowPlaces, blockSamples, blockBytes}
+use Rattle.block.specs.Steps.{rowPlaces}
+use Rattle.migrate.specs.Sizes.{bufferBytes, blockSamples, blockBytes}
 
 -- n samples, of u bytes or of w bytes: some, and both buffers have room for them
 abbrev pub Room : ℕ → ℕ → ℕ → Type 0

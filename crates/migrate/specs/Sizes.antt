@@ -4,14 +4,11 @@ use mathlib.Core.Bool.{cond}
 use lib.Dec.{ltb}
 use Rattle.value.specs.declared.Kind.{Kind}
 use Rattle.value.specs.Kinds.{bytesOf}
+use Rattle.block.specs.Steps.{rowPlaces}
 
 -- the bytes of a buffer
 abbrev pub bufferBytes : ℕ
 bufferBytes = 262144
-
--- the places of a row for a whole block
-abbrev pub rowPlaces : ℕ
-rowPlaces = 32768
 
 -- how many samples of one width are read at once, to become samples of another: wider ones fill a buffer, else there are as many as a row has places
 abbrev pub blockSamples : ℕ → ℕ → ℕ

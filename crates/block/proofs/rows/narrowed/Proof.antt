@@ -3,6 +3,7 @@ use mathlib.Core.Path.{sym, _∙_}
 use Prim.Native.Nat.{ℕ}
 use native.Mathlib.Nat.{div-one}
 use lib.ListN.{length}
+use Rattle.block.specs.Steps.{rowPlaces}
 use Rattle.block.proofs.Pieces.{places}
 use borrow.Author.Needs.{needs}
 use lib.Seq.{length-take-le}
@@ -12,7 +13,7 @@ use Rattle.block.proofs.rows.narrowed.Tie as tie
 narrow-row-requires : tie.Need-narrow-row-requires
 narrow-row-requires c κs =
     let s = c .before .before .before .before in
-    let own = places {A = ℕ} (s .args .n) 32768 0 (s .pre .2) in
+    let own = places {A = ℕ} (s .args .n) rowPlaces 0 (s .pre .2) in
     (own ∙ s .pre .0, rw (own, ← div-one (length (s .args .dst .now))) (s .pre .1))
 
 pub narrowed-spec : {M : Type 1} → statement M
