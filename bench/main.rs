@@ -1,5 +1,6 @@
 //! The proved library against the same work in Rust, on the same inputs, in turn, in one run: rows of samples, records and keys.
-//! One table: the best time of each side, and the library's over it; below 1 the library is the faster one.
+//! One table: the best time of each side, and the library's over it; below 1 the library is the faster one. Records and keys are timed on x86-64
+//! alone: a library of bench/native hands over an answer of three words as x86-64 does, which Rust doesn't know elsewhere.
 
 mod boundary;
 mod random;
@@ -12,5 +13,7 @@ mod table;
 fn main() {
     table::print_head();
     rows::run();
-    records::run();
+    if cfg!(target_arch = "x86_64") {
+        records::run();
+    }
 }

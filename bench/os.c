@@ -1,5 +1,5 @@
-/* What the kit's `os` has in C, for bench/native: the kit has it for x86-64 alone. The arguments of the program, errno, and the three ways in which
-   migrate opens a file. */
+/* What the kit's `os` has in C, for a program of bench/native: the kit has it for x86-64 alone. The arguments of the program, errno, and the three ways
+   in which migrate opens a file. */
 #include <errno.h>
 #include <fcntl.h>
 #include <stddef.h>
