@@ -1,13 +1,14 @@
 -- The migration of a string of bytes from kind to kind, as a whole and block by block. RULES.md: Migration.
 use Prim.Native.Nat.{ℕ, _+_, _/_, _%_, _^_}
 use mathlib.Core.Bool.{not}
-use mathlib.Core.List.{List, _++_}
+use mathlib.Core.List.{List, [], _∷_, _++_}
 use lib.Dec.{eqb, ltb}
 use lib.ListN.{length, drop}
 use Rattle.value.specs.declared.Kind.{Kind}
 use Rattle.value.specs.declared.Value.{Value}
 use Rattle.value.specs.Meaning.{bitsOf}
 use Rattle.value.specs.Outcome.{Outcome, gives, refuses, refuseIf, andThen, mapped, Success}
+use Rattle.value.specs.Rules.{Rule, rule, chain}
 use Rattle.convert.specs.Convert.{convertOf}
 use Rattle.row.specs.Row.{rowAnswer, rowResults}
 use Rattle.value.specs.Kinds.{bytesOf}
@@ -19,11 +20,13 @@ use Rattle.block.specs.Samples.{countOf, leftOf, samplesOf, bytesFor}
 unfoldable pub bitsTo : Kind → Value → Outcome ℕ
 bitsTo to v = mapped bitsOf (convertOf v to)
 
--- bytes left over are 9, at the number of whole samples; then the first sample that is refused decides
+-- bytes left over are 9, at the number of whole samples
+abbrev pub leftRules : Kind → List ℕ → List Rule
+leftRules from bytes = rule 9 (countOf from bytes) (not (eqb (leftOf from bytes) 0)) ∷ []
+
+-- and then the first sample that is refused decides
 unfoldable pub answerOf : Kind → Kind → List ℕ → Outcome Success
-answerOf from to bytes =
-    refuseIf (not (eqb (leftOf from bytes) 0)) 9 (countOf from bytes)
-    (rowAnswer (bitsTo to) 0 (samplesOf from bytes))
+answerOf from to bytes = chain (leftRules from bytes) (rowAnswer (bitsTo to) 0 (samplesOf from bytes))
 
 -- the bytes of the samples' conversions
 unfoldable pub outputOf : Kind → Kind → List ℕ → List ℕ

@@ -10,9 +10,11 @@ use Rattle.float.proofs.Tests.{neither, clash}
 use Rattle.value.specs.declared.Value.{Value}
 use Rattle.value.specs.declared.Refusal.{Refusal}
 use Rattle.value.specs.Outcome.{Outcome, gives, refuses, refuseIf, refusalOf, andThen}
+use Rattle.value.specs.Rules.{chain}
+use Rattle.value.proofs.Rules.{chain-then}
 use Rattle.cmp.specs.declared.Compared.{Compared}
 use Rattle.cmp.specs.declared.Compared.the-variants as compared
-use Rattle.cmp.specs.Compare.{comparedOutcome, kindsDiffer, compareOf}
+use Rattle.cmp.specs.Compare.{comparedOutcome, kindsDiffer, valueRules, compareOf}
 use Rattle.cmp.proofs.KindTests.{one-kind}
 use Rattle.cmp.specs.Choose.{valueOrder, chosenBy, clampedBy, minOf, maxOf, clampOf}
 
@@ -41,20 +43,16 @@ module _ {A : Type 0} (place : ℕ) (one other : A) (o : Order) where
   chosen-other h = let n = neither (isGreater o) (isUnordered o) (not-true _ h) in simp (n .0, n .1)
 
 -- a comparison, and then what follows, is rule 7 and then what follows
-compare-then : {B : Type 0} (next : Order → Outcome B) (a b : Value) → andThen (compareOf a b) next ≡ refuseIf (kindsDiffer a b) 7 0 (next (valueOrder a b))
+compare-then : {B : Type 0} (next : Order → Outcome B) (a b : Value) → andThen (compareOf a b) next ≡ chain (valueRules a b) (next (valueOrder a b))
 unfolding compareOf
-compare-then next a b = go (kindsDiffer a b)
-  where
-    go : (t : Bool) → andThen (refuseIf t 7 0 (gives (valueOrder a b))) next ≡ refuseIf t 7 0 (next (valueOrder a b))
-    go true = refl
-    go false = refl
+compare-then next a b = chain-then next (valueRules a b) (gives (valueOrder a b))
 
 pub min-chosen : (a b : Value) → andThen (compareOf a b) (chosenBy 0 a b) ≡ minOf a b
-unfolding minOf
+unfolding minOf chosenBy
 min-chosen a b = compare-then (chosenBy 0 a b) a b
 
 pub max-chosen : (a b : Value) → andThen (compareOf a b) (chosenBy 0 b a) ≡ maxOf a b
-unfolding maxOf
+unfolding maxOf chosenBy
 max-chosen a b = compare-then (chosenBy 0 b a) a b
 
 -- ---- the clamp
@@ -118,7 +116,7 @@ module _ (v lower upper : Value) where
       clamp-never f h = absurd (true≢false (sym (refused-kinds lower upper f h .0) ∙ same-kinds v lower upper (given-kinds v lower l .0) (given-kinds v upper u .0)))
 
       pub clamp-clamped : {bounds : Order} {r : Outcome Value} → gives bounds ≡ compareOf lower upper → r ≡ clampedBy bounds low high v lower upper → r ≡ clampOf v lower upper
-      unfolding clampOf
+      unfolding clampOf clampedBy
       clamp-clamped w h =
           let p = given-kinds v lower l in
           let q = given-kinds v upper u in

@@ -11,7 +11,7 @@ use Rattle.float.proofs.Turned.{greater-turned, unordered-nan}
 use Rattle.value.specs.Outcome.{gives, refuses}
 use Rattle.value.proofs.FloatBits.{differs-nan, same-no-nan, is-false}
 use Rattle.cmp.specs.declared.Range.{Range}
-use Rattle.cmp.specs.Choose.{sampleOrder, rangeOf, sampleOf}
+use Rattle.cmp.specs.Choose.{sampleOrder, clampedBy, rangeOf, sampleOf}
 use Rattle.cmp.proofs.Choice.{clamped-bounds, clamped-nan, clamped-lower, clamped-upper, clamped-self}
 
 -- ---- the bounds
@@ -42,9 +42,12 @@ module _ (lower upper : Float) (hl : T (fits binary32 lower)) (hu : T (fits bina
 -- ---- one sample
 
 module _ (range : Range) (x : Float) (hl : T (fits binary32 (range .lower))) (hu : T (fits binary32 (range .upper))) (hx : T (fits binary32 x)) where
+  by-orders : clampedBy (sampleOrder (range .lower) (range .upper)) (sampleOrder x (range .lower)) (sampleOrder x (range .upper)) x (range .lower) (range .upper) ≡ sampleOf range x
+  unfolding clampedBy sampleOf
+  by-orders = refl
+
   pub sample-bounds : le (range .lower) (range .upper) ≡ false → refuses 6 0 ≡ sampleOf range x
-  unfolding sampleOf
-  sample-bounds h = clamped-bounds x (range .lower) (range .upper) _ _ _ (ap not (sym (le-is binary32 (range .lower) (range .upper) hl hu) ∙ h))
+  sample-bounds h = clamped-bounds x (range .lower) (range .upper) _ _ _ (ap not (sym (le-is binary32 (range .lower) (range .upper) hl hu) ∙ h)) ∙ by-orders
 
   module _ (b : le (range .lower) (range .upper) ≡ true) where
     in-order : isLessOrEqual (sampleOrder (range .lower) (range .upper)) ≡ true
@@ -54,16 +57,14 @@ module _ (range : Range) (x : Float) (hl : T (fits binary32 (range .lower))) (hu
     unordered = unordered-nan binary32 x (range .lower) hx hl
 
     pub sample-nan : ne x x ≡ true → refuses 8 0 ≡ sampleOf range x
-    unfolding sampleOf
-    sample-nan h = clamped-nan x (range .lower) (range .upper) _ _ _ in-order (unordered ∙ ap (λ (t : Bool). t || isNan (range .lower)) (differs-nan x h))
+    sample-nan h = clamped-nan x (range .lower) (range .upper) _ _ _ in-order (unordered ∙ ap (λ (t : Bool). t || isNan (range .lower)) (differs-nan x h)) ∙ by-orders
 
     module _ (n : ne x x ≡ false) where
       number : isUnordered (sampleOrder x (range .lower)) ≡ false
       number = unordered ∙ cc (is-false (isNan x) (same-no-nan x n), lower-number (range .lower) (range .upper) hl hu b)
 
       pub sample-lower : lt x (range .lower) ≡ true → gives (range .lower) ≡ sampleOf range x
-      unfolding sampleOf
-      sample-lower h = clamped-lower x (range .lower) (range .upper) _ _ _ in-order number (sym (lt-is binary32 x (range .lower) hx hl) ∙ h)
+      sample-lower h = clamped-lower x (range .lower) (range .upper) _ _ _ in-order number (sym (lt-is binary32 x (range .lower) hx hl) ∙ h) ∙ by-orders
 
       module _ (l : lt x (range .lower) ≡ false) where
         not-below : isLess (sampleOrder x (range .lower)) ≡ false
@@ -73,9 +74,7 @@ module _ (range : Range) (x : Float) (hl : T (fits binary32 (range .lower))) (hu
         above = sym (greater-turned 23 8 (toBits binary32 x) (toBits binary32 (range .upper))) ∙ sym (lt-is binary32 (range .upper) x hu hx)
 
         pub sample-upper : lt (range .upper) x ≡ true → gives (range .upper) ≡ sampleOf range x
-        unfolding sampleOf
-        sample-upper h = clamped-upper x (range .lower) (range .upper) _ _ _ in-order number not-below (above ∙ h)
+        sample-upper h = clamped-upper x (range .lower) (range .upper) _ _ _ in-order number not-below (above ∙ h) ∙ by-orders
 
         pub sample-self : lt (range .upper) x ≡ false → gives x ≡ sampleOf range x
-        unfolding sampleOf
-        sample-self h = clamped-self x (range .lower) (range .upper) _ _ _ in-order number not-below (above ∙ h)
+        sample-self h = clamped-self x (range .lower) (range .upper) _ _ _ in-order number not-below (above ∙ h) ∙ by-orders

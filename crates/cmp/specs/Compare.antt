@@ -1,12 +1,14 @@
 -- Comparison of two values, its six tests, and the total order. RULES.md: Comparison, Total order, Refusals.
 use mathlib.Core.Bool.{Bool, not}
+use mathlib.Core.List.{List, [], _∷_}
 use lib.Dec.{eqb}
 use Rattle.float.specs.declared.Order.{Order}
 use Rattle.float.specs.Order.{orderOf, orderZ, isEqual, isNotEqual, isLess, isLessOrEqual, isGreater, isGreaterOrEqual}
 use Rattle.value.specs.declared.Value.{Value}
 use Rattle.value.specs.Kinds.{kindOf, kindNumber}
 use Rattle.value.specs.Meaning.{numberOf, positionOf}
-use Rattle.value.specs.Outcome.{Outcome, gives, refuseIf, refusalOf, mapped}
+use Rattle.value.specs.Outcome.{Outcome, gives, refusalOf, mapped}
+use Rattle.value.specs.Rules.{Rule, rule, chain}
 use Rattle.cmp.specs.declared.Compared.{Compared}
 use Rattle.cmp.specs.declared.Compared.the-variants as compared
 use Rattle.cmp.specs.declared.Tested.{Tested}
@@ -25,11 +27,12 @@ testedOutcome (tested.Refused f) = refusalOf f
 abbrev pub kindsDiffer : Value → Value → Bool
 kindsDiffer a b = not (eqb (kindNumber (kindOf a)) (kindNumber (kindOf b)))
 
+abbrev pub valueRules : Value → Value → List Rule
+valueRules a b = rule 7 0 (kindsDiffer a b) ∷ []
+
 -- two values of one kind compare as their numbers do
 unfoldable pub compareOf : Value → Value → Outcome Order
-compareOf a b =
-    refuseIf (kindsDiffer a b) 7 0
-    (gives (orderOf (numberOf a) (numberOf b)))
+compareOf a b = chain (valueRules a b) (gives (orderOf (numberOf a) (numberOf b)))
 
 -- the six tests of that comparison
 abbrev pub eqOf : Value → Value → Outcome Bool
@@ -52,6 +55,4 @@ geOf a b = mapped isGreaterOrEqual (compareOf a b)
 
 -- in the total order two values of one kind lie as their positions do
 unfoldable pub totalOf : Value → Value → Outcome Order
-totalOf a b =
-    refuseIf (kindsDiffer a b) 7 0
-    (gives (orderZ (positionOf a) (positionOf b)))
+totalOf a b = chain (valueRules a b) (gives (orderZ (positionOf a) (positionOf b)))

@@ -22,9 +22,10 @@ use Rattle.float.proofs.Tests.{clash}
 use Rattle.value.specs.Kinds.{Form, unsigned, signed, float}
 use Rattle.value.specs.Meaning.{wholeOf, unit, stepOf}
 use Rattle.value.specs.Outcome.{gives}
+use Rattle.value.specs.Rules.{chain}
 use Rattle.value.proofs.Units.{unit-pos}
 use Rattle.value.proofs.Outcomes.{refuse-passes}
-use Rattle.convert.specs.Convert.{rulesOf, isInfinite, isInteger, hasFraction, outside, outOfRange, notHeld, heldIn, patternFor, signFor, magnitudeFor, absFor, integerFor}
+use Rattle.convert.specs.Convert.{intoRules, isInfinite, isInteger, hasFraction, outside, outOfRange, notHeld, heldIn, patternFor, signFor, magnitudeFor, absFor, integerFor}
 use Rattle.convert.proofs.Encode.{held-of}
 use Rattle.convert.proofs.Patterns.{two-or-more, inf-range, made-small, encode-below, finite-made, infinite-made}
 
@@ -36,7 +37,7 @@ pub record Accepted (form : Form) (x : Exact) : Type 0 where
   pub in-range : outOfRange form x ≡ false
   pub held : notHeld form x ≡ false
 
-pub rules-accept : {A : Type 0} (form : Form) (x : Exact) (result a : A) → rulesOf form x result ≡ gives a → Accepted form x × (result ≡ a)
+pub rules-accept : {A : Type 0} (form : Form) (x : Exact) (result a : A) → chain (intoRules form x) (gives result) ≡ gives a → Accepted form x × (result ≡ a)
 rules-accept form x result r h =
     let a = refuse-passes _ _ _ _ r h in
     let b = refuse-passes _ _ _ _ r (a .1) in
@@ -45,7 +46,7 @@ rules-accept form x result r h =
     let e = refuse-passes _ _ _ _ r (d .1) in
     (record { some-number = a .0; no-infinity = b .0; no-fraction = c .0; in-range = d .0; held = e .0 }, cc)
 
-pub rules-give : {A : Type 0} (form : Form) (x : Exact) (result : A) → Accepted form x → rulesOf form x result ≡ gives result
+pub rules-give : {A : Type 0} (form : Form) (x : Exact) (result : A) → Accepted form x → chain (intoRules form x) (gives result) ≡ gives result
 rules-give form x result a = simp (a .some-number, a .no-infinity, a .no-fraction, a .in-range, a .held)
 
 -- what the made value means

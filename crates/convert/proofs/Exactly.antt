@@ -1,6 +1,7 @@
 -- To another kind a value converts exactly when it has a number and some value of that kind has the same number; and then the answer has it.
 use mathlib.Core.Path.{_≡_, refl, sym, _∙_, ap, subst}
 use mathlib.Core.Bool.{Bool, true, false, cond}
+use mathlib.Core.List.{[]}
 use mathlib.Core.Logic.{inl, inr}
 use Prim.Native.Nat.{ℕ, _-_, _*_, _%_, _^_, _<_}
 use native.Mathlib.Nat.{mod-eq-of-lt}
@@ -21,11 +22,12 @@ use Rattle.value.specs.declared.Value.{Value}
 use Rattle.value.specs.declared.Value.the-variants.{U8, U16, U32, U64, I8, I16, I32, I64}
 use Rattle.value.specs.Kinds.{kindOf, kindNumber, Form, float, formOf}
 use Rattle.value.specs.Meaning.{exactOf, numberOf, bitsOf, stepOf, twosOf, fromTwos, f32Value, f64Value, valueOf, wordFor, floatBits}
-use Rattle.value.specs.Outcome.{gives}
+use Rattle.value.specs.Outcome.{Outcome, gives}
+use Rattle.value.specs.Rules.{chain}
 use Rattle.value.proofs.FloatBits.{bits-pattern}
 use Rattle.value.proofs.MadeValues.{low-bits}
 use Rattle.value.proofs.TwosComplement.{from-low, from-high, from-twos}
-use Rattle.convert.specs.Convert.{magnitudeFor, integerFor, patternFor, madeIn, intoOf, convertOf}
+use Rattle.convert.specs.Convert.{magnitudeFor, integerFor, patternFor, intoRules, madeIn, intoOf, convertOf}
 use Rattle.convert.proofs.Accepted.{Accepted, rules-accept, rules-give, exactFor, made-number, made-float, unsigned-fits, signed-fits, pattern-small, accepts-unsigned, accepts-signed, accepts-float}
 
 -- ---- the made value
@@ -123,9 +125,13 @@ pub into-gives : (to : Kind) (x : Exact) → Accepted (formOf to) x → intoOf t
 unfolding intoOf
 into-gives to x a = rules-give (formOf to) x (madeIn to x) a
 
+-- by whether the kind is its own
+abbrev own : Value → Kind → Bool → Outcome Value
+own v to t = chain (cond t [] (intoRules (formOf to) (exactOf v))) (gives (cond t v (madeIn to (exactOf v))))
+
 pub other-kind : (v : Value) (to : Kind) → (kindNumber (kindOf v) ≡ kindNumber to → ⊥) → convertOf v to ≡ intoOf to (exactOf v)
-unfolding convertOf
-other-kind v to d = ap (λ (t : Bool). cond t (gives v) (intoOf to (exactOf v))) (ne-eqb _ _ d)
+unfolding convertOf intoOf
+other-kind v to d = ap (own v to) (ne-eqb _ _ d)
 
 pub none-is : (x : Exact) → (float-number.numberOf x ≡ none → ⊥) → isNone x ≡ false
 none-is notNumber h = absurd (h refl)
@@ -143,7 +149,7 @@ is-none (finite s m) t h = clash cc
 -- the same kind: the same value
 pub own-kind : (v : Value) (to : Kind) → kindNumber (kindOf v) ≡ kindNumber to → convertOf v to ≡ gives v
 unfolding convertOf
-own-kind v to q = ap (λ (t : Bool). cond t (gives v) (intoOf to (exactOf v))) (eq-eqb _ _ q)
+own-kind v to q = ap (own v to) (eq-eqb _ _ q)
 
 pub same-kind : (v : Value) → convertOf v (kindOf v) ≡ gives v
 same-kind v = own-kind v (kindOf v) refl

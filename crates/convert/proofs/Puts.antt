@@ -17,9 +17,11 @@ use Rattle.value.specs.declared.Value.the-variants.{U8, U16, U32, U64, I8, I16,
 use Rattle.value.specs.Kinds.{Form, unsigned, signed, float, formOf}
 use Rattle.value.specs.Meaning.{unit, stepOf, f32Value, f64Value}
 use Rattle.value.specs.Outcome.{Outcome, gives, refuses, refuseIf, mapped}
+use Rattle.value.specs.Rules.{chain}
+use Rattle.value.proofs.Rules.{chain-mapped}
 use Rattle.convert.specs.declared.Found.{Found}
 use Rattle.convert.specs.declared.Found.the-variants as found
-use Rattle.convert.specs.Convert.{encodeOf, heldIn, isInfinite, isInteger, hasFraction, outside, outOfRange, notHeld, rulesOf, withSign, signFor, magnitudeFor, absFor, madeIn, intoOf}
+use Rattle.convert.specs.Convert.{encodeOf, heldIn, isInfinite, isInteger, hasFraction, outside, outOfRange, notHeld, intoRules, withSign, signFor, magnitudeFor, absFor, madeIn, intoOf}
 use Rattle.convert.specs.Steps.{foundOutcome, wholeIn, floatIn}
 use Rattle.convert.proofs.Accepted.{Accepted, rules-accept, unsigned-fits, signed-fits, abs-small}
 
@@ -64,26 +66,26 @@ float-rules : {A : Type 0} (t u v : Bool) (a : A) → refuseIf u 4 0 (refuseIf v
 float-rules true u v a = refl
 float-rules false u v a = refl
 
-find-unsigned : (k : ℕ) (x : Exact) → wholeIn 0 (2 ^ k - 1) x ≡ rulesOf (unsigned k) x (signFor x, magnitudeFor x)
+find-unsigned : (k : ℕ) (x : Exact) → wholeIn 0 (2 ^ k - 1) x ≡ chain (intoRules (unsigned k) x) (gives (signFor x, magnitudeFor x))
 unfolding wholeIn
 find-unsigned k notNumber = refl
 find-unsigned k (infinite s) = refl
 find-unsigned k (finite s m) = whole-rules (not (eqb (m % unit) 0)) (outside 0 (2 ^ k - 1) s (m / unit)) (s, m / unit)
 
-find-signed : (k : ℕ) (x : Exact) → wholeIn (2 ^ (k - 1)) (2 ^ (k - 1) - 1) x ≡ rulesOf (signed k) x (signFor x, magnitudeFor x)
+find-signed : (k : ℕ) (x : Exact) → wholeIn (2 ^ (k - 1)) (2 ^ (k - 1) - 1) x ≡ chain (intoRules (signed k) x) (gives (signFor x, magnitudeFor x))
 unfolding wholeIn
 find-signed k notNumber = refl
 find-signed k (infinite s) = refl
 find-signed k (finite s m) = whole-rules (not (eqb (m % unit) 0)) (outside (2 ^ (k - 1)) (2 ^ (k - 1) - 1) s (m / unit)) (s, m / unit)
 
 find-float : (f : Format) (last : ℕ) → last ≡ 2 ^ exponentOf f - 3 → (last + 2) * 2 ^ fractionOf f ≡ infOf (fractionOf f) (exponentOf f) → (x : Exact)
-    → floatIn (fractionOf f) (stepOf f) last x ≡ rulesOf (float f) x (signFor x, absFor f x)
+    → floatIn (fractionOf f) (stepOf f) last x ≡ chain (intoRules (float f) x) (gives (signFor x, absFor f x))
 unfolding floatIn heldIn encodeOf
 find-float f last q i notNumber = refl
 find-float f last q i (infinite s) = ap (λ (n : ℕ). gives (s, n)) i
 find-float f last q i (finite s m) = rw q (float-rules (hasFraction (finite s m)) (ltb (largestOf (fractionOf f) (exponentOf f) * stepOf f) m) (not (heldIn f m)) (s, encodeOf f m))
 
-pub find-rules : (to : Kind) (x : Exact) → findIn to x ≡ rulesOf (formOf to) x (signFor x, numberFor (formOf to) x)
+pub find-rules : (to : Kind) (x : Exact) → findIn to x ≡ chain (intoRules (formOf to) x) (gives (signFor x, numberFor (formOf to) x))
 unfolding stepOf
 find-rules kind.U8 x = find-unsigned 8 x
 find-rules kind.U16 x = find-unsigned 16 x
@@ -97,17 +99,6 @@ find-rules kind.F32 x = find-float binary32 253 refl refl x
 find-rules kind.F64 x = find-float binary64 2045 refl refl x
 
 -- ---- the value made of it
-
-mapped-rules : {A B : Type 0} (f : A → B) (form : Form) (x : Exact) (a : A) → mapped f (rulesOf form x a) ≡ rulesOf form x (f a)
-mapped-rules f form x a = go (isNone x) (isInfinite x && isInteger form) (hasFraction x && isInteger form) (outOfRange form x) (notHeld form x)
-  where
-    go : (n i h o u : Bool) → mapped f (refuseIf n 1 0 (refuseIf i 2 0 (refuseIf h 3 0 (refuseIf o 4 0 (refuseIf u 5 0 (gives a)))))) ≡ refuseIf n 1 0 (refuseIf i 2 0 (refuseIf h 3 0 (refuseIf o 4 0 (refuseIf u 5 0 (gives (f a))))))
-    go true i h o u = refl
-    go false true h o u = refl
-    go false false true o u = refl
-    go false false false true u = refl
-    go false false false false true = refl
-    go false false false false false = refl
 
 make-is : (to : Kind) (x : Exact) → makeIn to (signFor x, numberFor (formOf to) x) ≡ madeIn to x
 unfolding madeIn
@@ -126,8 +117,8 @@ into-found : (to : Kind) (x : Exact) → mapped (makeIn to) (findIn to x) ≡ in
 unfolding intoOf
 into-found to x =
     ap (mapped (makeIn to)) (find-rules to x)
-    ∙ mapped-rules (makeIn to) (formOf to) x (signFor x, numberFor (formOf to) x)
-    ∙ ap (λ (v : Value). rulesOf (formOf to) x v) (make-is to x)
+    ∙ chain-mapped (makeIn to) (intoRules (formOf to) x) (gives (signFor x, numberFor (formOf to) x))
+    ∙ ap (λ (v : Value). chain (intoRules (formOf to) x) (gives v)) (make-is to x)
 
 -- ---- what was found fits the kind
 

@@ -1,6 +1,7 @@
 -- Exact conversion, all ordered pairs of kinds: five rules in their order, and the value that has the number. RULES.md: Exact conversion.
 use Prim.Native.Nat.{ℕ, suc, _+_, _-_, _*_, _/_, _%_, _^_}
 use mathlib.Core.Bool.{Bool, true, false, not, _&&_, cond}
+use mathlib.Core.List.{List, [], _∷_}
 use lib.Dec.{eqb, ltb}
 use lib.Ieee.{Format, binary32, binary64, size}
 use lib.IntN.{ℤ}
@@ -13,7 +14,8 @@ use Rattle.value.specs.declared.Value.{Value}
 use Rattle.value.specs.declared.Value.the-variants.{U8, U16, U32, U64, I8, I16, I32, I64}
 use Rattle.value.specs.Kinds.{Form, unsigned, signed, float, formOf, kindOf, kindNumber}
 use Rattle.value.specs.Meaning.{exactOf, unit, stepOf, f32Value, f64Value}
-use Rattle.value.specs.Outcome.{Outcome, gives, refuseIf, refusalOf}
+use Rattle.value.specs.Outcome.{Outcome, gives, refusalOf}
+use Rattle.value.specs.Rules.{Rule, rule, chain}
 use Rattle.convert.specs.declared.Converted.{Converted}
 use Rattle.convert.specs.declared.Converted.the-variants as converted
 
@@ -122,23 +124,31 @@ madeIn kind.F64 x = f64Value (patternFor binary64 x)
 
 -- ---- the conversion
 
--- the first rule of the form that holds refuses, else the result
-abbrev pub rulesOf : {A : Type 0} → Form → Exact → A → Outcome A
-rulesOf form x result =
-    refuseIf (isNone x) 1 0
-    (refuseIf (isInfinite x && isInteger form) 2 0
-    (refuseIf (hasFraction x && isInteger form) 3 0
-    (refuseIf (outOfRange form x) 4 0
-    (refuseIf (notHeld form x) 5 0
-    (gives result)))))
-
 -- to another kind: the value of the kind with the number
+abbrev pub intoRules : Form → Exact → List Rule
+intoRules form x =
+    rule 1 0 (isNone x)
+    ∷ rule 2 0 (isInfinite x && isInteger form)
+    ∷ rule 3 0 (hasFraction x && isInteger form)
+    ∷ rule 4 0 (outOfRange form x)
+    ∷ rule 5 0 (notHeld form x)
+    ∷ []
+
 unfoldable pub intoOf : Kind → Exact → Outcome Value
-intoOf to x = rulesOf (formOf to) x (madeIn to x)
+intoOf to x = chain (intoRules (formOf to) x) (gives (madeIn to x))
 
 -- to its own kind every value comes back as it is
+abbrev pub ownKind : Value → Kind → Bool
+ownKind v to = eqb (kindNumber (kindOf v)) (kindNumber to)
+
+abbrev pub convertRules : Value → Kind → List Rule
+convertRules v to = cond (ownKind v to) [] (intoRules (formOf to) (exactOf v))
+
+abbrev pub convertedTo : Value → Kind → Value
+convertedTo v to = cond (ownKind v to) v (madeIn to (exactOf v))
+
 unfoldable pub convertOf : Value → Kind → Outcome Value
-convertOf v to = cond (eqb (kindNumber (kindOf v)) (kindNumber to)) (gives v) (intoOf to (exactOf v))
+convertOf v to = chain (convertRules v to) (gives (convertedTo v to))
 
 -- what the answer says in the words of the rules
 abbrev pub convertedOutcome : Converted → Outcome Value

@@ -88,9 +88,11 @@ clamped-mapped f bounds low high x lower upper = go (not (isLessOrEqual bounds))
     go false false false false = refl
 
 samples : (range : Range) (x : Float) (u v w : ℕ) → mapped floatOf (clampOf (F32 x u) (F32 (range .lower) v) (F32 (range .upper) w)) ≡ sampleOf range x
-unfolding clampOf sampleOf
+unfolding clampOf sampleOf clampedBy
 samples range x u v w =
-    clamped-mapped floatOf _ _ _ (F32 x u) (F32 (range .lower) v) (F32 (range .upper) w)
+    let l = F32 (range .lower) v in
+    let h = F32 (range .upper) w in
+    clamped-mapped floatOf (valueOrder l h) (valueOrder (F32 x u) l) (valueOrder (F32 x u) h) (F32 x u) l h
     ∙ cc (sample-order (range .lower) (range .upper) v w, sample-order x (range .lower) u v, sample-order x (range .upper) u w)
 
 -- ---- choosing

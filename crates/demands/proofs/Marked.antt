@@ -9,11 +9,12 @@ use Rattle.cmp.specs.Choose.{clampedBy, clampOf}
 use Rattle.convert.specs.Convert.{encodeOf, heldIn, madeIn, intoOf, convertOf}
 use Rattle.record.specs.Record.{lexicalOf, shapesDiffer}
 use Rattle.record.specs.Record as «record»
-use Rattle.key.specs.Key.{bigEndian, keyOf, nanThen, writeOf, writeExit, numberFrom, bytesIn, readFields, readOf}
+use Rattle.key.specs.Key.{bigEndian, keyOf, writeOf, writeExit, numberFrom, bytesIn, numbersIn, readOf}
+use Rattle.value.specs.Rules.{eachOf}
 use Rattle.demands.specs.Marked.{answerTo, marked, AllAnswered}
 
 pub all-answered : AllAnswered marked
 unfolding answerTo marked classOf scaledOf compareOf totalOf convertOf intoOf madeIn heldIn encodeOf clampOf clampedBy «record».compareOf lexicalOf shapesDiffer
-    writeOf writeExit nanThen keyOf bigEndian readOf readFields bytesIn numberFrom
+    writeOf writeExit eachOf keyOf bigEndian readOf numbersIn bytesIn numberFrom
     unit stepOf floatBits patternOf magOf absOf positionOf toBits ofBits ofFields odd size span climb isNan
 all-answered = refl

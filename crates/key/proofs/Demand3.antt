@@ -16,6 +16,7 @@ use Rattle.value.specs.declared.Kind.{Kind}
 use Rattle.value.specs.declared.Value.the-variants.{U8}
 use Rattle.value.specs.Kinds.{kindOf}
 use Rattle.value.specs.Outcome.{Outcome, gives, mapped}
+use Rattle.value.specs.Rules.{chain, eachOf}
 use Rattle.value.proofs.Outcomes.{refuse-passes}
 use Rattle.record.specs.declared.Field.{Field}
 use Rattle.record.specs.declared.Place.{Place}
@@ -23,10 +24,11 @@ use Rattle.record.specs.declared.Record.{Record}
 use Rattle.record.specs.declared.Shape.{Shape}
 use Rattle.record.specs.Record.{fieldFor, fieldsOf, badCount, lexicalOf, compareOf, kindsIn, kindsOf, recordOf}
 use Rattle.record.proofs.Given.{kinds-shape}
-use Rattle.key.specs.Key.{keyOf, nanThen, writeOf, bufferAfter, writeExit, bytesIn, readFields, readOf}
+use Rattle.key.specs.Key.{keyOf, nanRules, writeOf, bufferAfter, writeExit, bytesIn, readOf}
+use Rattle.key.specs.Steps.{readFields}
 use Rattle.key.specs.Prefix.{bytesOrder}
 use Rattle.key.specs.Theorem.{Bytes, AllKeyed, none, more, normalRecord, recordKey, Usable, OfShape}
-use Rattle.key.proofs.Passing.{mapped-gives}
+use Rattle.key.proofs.Passing.{mapped-gives, read-by}
 use Rattle.key.proofs.Bytes.{first-difference}
 use Rattle.key.proofs.FieldLists.{keys-order, same-keys, key-length, key-bytes, read-written, FieldsFor, written-read}
 
@@ -81,8 +83,8 @@ module _ (s : Shape) (a b : Record) (u : Usable s) (h : OfShape s a) (k : OfShap
 
 -- ---- writing
 
-some-numbers : {A : Type 0} (at : ℕ) {xs : List Field} (next : Outcome A) → AllKeyed xs → nanThen at xs next ≡ next
-unfolding nanThen
+some-numbers : {A : Type 0} (at : ℕ) {xs : List Field} (next : Outcome A) → AllKeyed xs → chain (nanRules at xs) next ≡ next
+unfolding eachOf
 some-numbers at next none = refl
 some-numbers at next (more x xs h a) = rw (h .some-number) (some-numbers (suc at) next a)
 
@@ -99,8 +101,7 @@ module _ (s : Shape) (r : Record) (u : Usable s) (h : OfShape s r) (old : List �
 
 module _ (s : Shape) (u : Usable s) where
   read-fields : (key : List ℕ) → length key ≡ bytesIn (kindsIn s) → readOf s key ≡ mapped recordOf (readFields 0 (kindsIn s) key)
-  unfolding readOf
-  read-fields key l = rw (good-count (s .count) (u .some) (u .few), eq-eqb (length key) (bytesIn (kindsIn s)) l)
+  read-fields key l = read-by s key ∙ rw (good-count (s .count) (u .some) (u .few), eq-eqb (length key) (bytesIn (kindsIn s)) l)
 
   pub read-of-written : (r : Record) → OfShape s r → readOf s (recordKey r) ≡ gives (normalRecord r)
   read-of-written r h =
@@ -119,9 +120,8 @@ record Accepted (s : Shape) (key : List ℕ) (r : Record) : Type 0 where
   record-is : recordOf fields ≡ r
 
 accepted : (s : Shape) (key : List ℕ) (r : Record) → readOf s key ≡ gives r → Accepted s key r
-unfolding readOf
 accepted s key r e =
-    let c = refuse-passes (badCount (s .count)) 11 0 _ r e in
+    let c = refuse-passes (badCount (s .count)) 11 0 _ r (sym (read-by s key) ∙ e) in
     let l = refuse-passes (not (eqb (length key) (bytesIn (kindsIn s)))) 9 0 _ r (c .1) in
     let m = mapped-gives recordOf (readFields 0 (kindsIn s) key) (l .1) in
     record { counts = count-good (s .count) (c .0); long = eqb-true _ _ (not-false _ (l .0)); fields = m .0; read = m .1; record-is = m .2 }

@@ -21,10 +21,11 @@ use Rattle.value.proofs.Outcomes.{refuse-passes}
 use Rattle.cmp.specs.Choose.{valueOrder}
 use Rattle.record.specs.declared.Field.{Field}
 use Rattle.record.specs.Record.{fieldFor, orElse, lexicalOf, kindsOf}
-use Rattle.key.specs.Key.{keyNumber, bigEndian, fieldKey, keyOf, numberFrom, bitsFrom, notCanonical, bytesIn, readFields}
+use Rattle.key.specs.Key.{keyNumber, bigEndian, fieldKey, keyOf, numberFrom, bitsFrom, notCanonical, bytesIn}
+use Rattle.key.specs.Steps.{readFields}
 use Rattle.key.specs.Prefix.{bytesOrder}
 use Rattle.key.specs.Theorem.{Bytes, Keyed, AllKeyed, none, more, normalFields}
-use Rattle.key.proofs.Passing.{mapped-gives}
+use Rattle.key.proofs.Passing.{mapped-gives, read-none, read-more}
 use Rattle.key.proofs.Bytes.{bytes-append, bytes-big, bytes-take, bytes-drop, length-big, number-big, big-number, number-below, order-append, order-big, equal-bytes, bytes-equal}
 use Rattle.key.proofs.FieldKeys.{field-order, field-read, field-write}
 
@@ -75,12 +76,12 @@ key-length [] = refl
 key-length (x ∷ xs) = length-append (fieldKey (x .value)) (keyOf xs) ∙ rw (field-length (x .value), key-length xs)
 
 pub read-written : (at : ℕ) {xs : List Field} → AllKeyed xs → readFields at (kindsOf xs) (keyOf xs) ≡ gives (normalFields xs)
-unfolding readFields keyOf
-read-written at none = refl
+unfolding keyOf
+read-written at none = read-none at []
 read-written at (more x xs h a) =
     let v = x .value in
     let r = field-read v h in
-    rw (
+    read-more at (kindOf v) (kindsOf xs) (keyOf (x ∷ xs)) ∙ rw (
       take-at (fieldKey v) (keyOf xs) (bytesOf (kindOf v)) (field-length v),
       drop-at (fieldKey v) (keyOf xs) (bytesOf (kindOf v)) (field-length v),
       number-big (bytesOf (kindOf v)) (keyNumber v) (r .below),
@@ -116,13 +117,14 @@ field-more k ks key gs b l c r =
     }
 
 pub written-read : (at : ℕ) (ks : List Kind) (key : List ℕ) → Bytes key → length key ≡ bytesIn ks → (fs : List Field) → readFields at ks key ≡ gives fs → FieldsFor ks key fs
-unfolding readFields bytesIn keyOf
+unfolding bytesIn keyOf
 written-read at [] [] b l fs e =
+    let h : gives [] ≡ gives fs = sym (read-none at []) ∙ e in
     let q : [] ≡ fs = cc in
     subst (λ (gs : List Field). FieldsFor [] [] gs) q (record { key-is = refl; kinds-are = refl; keyed = none })
 written-read at [] (x ∷ key) b l fs e = absurd (omega arith)
 written-read at (k ∷ ks) key b l fs e =
-    let c = refuse-passes (notCanonical (formOf k) (numberFrom 0 (take (bytesOf k) key))) 12 at _ fs e in
+    let c = refuse-passes (notCanonical (formOf k) (numberFrom 0 (take (bytesOf k) key))) 12 at _ fs (sym (read-more at k ks key) ∙ e) in
     let m = mapped-gives _ (readFields (suc at) ks (drop (bytesOf k) key)) (c .1) in
     let r = written-read (suc at) ks (drop (bytesOf k) key) (bytes-drop (bytesOf k) b) (length-drop (bytesOf k) key ∙ omega arith) (m .0) (m .1) in
     subst (λ (gs : List Field). FieldsFor (k ∷ ks) key gs) (m .2) (field-more k ks key (m .0) b (omega arith) (c .0) r)

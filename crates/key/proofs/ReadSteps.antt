@@ -27,9 +27,9 @@ use Rattle.record.specs.Record.{fieldFor, blank, badCount, kindsIn, recordOf, r
 use Rattle.record.proofs.Deciding.{good-count}
 use Rattle.record.proofs.Shape as shape-type
 use Rattle.key.specs.declared.Layout.{Layout}
-use Rattle.key.specs.Key.{numberFrom, bitsFrom, notCanonical, bytesIn, readFields, readOf}
-use Rattle.key.specs.Steps.{layoutFor, bitsIn, foreignIn}
-use Rattle.key.proofs.Passing.{mapped-gives}
+use Rattle.key.specs.Key.{numberFrom, bitsFrom, notCanonical, bytesIn, readOf}
+use Rattle.key.specs.Steps.{layoutFor, bitsIn, foreignIn, readFields}
+use Rattle.key.proofs.Passing.{mapped-gives, read-none, read-more, read-by}
 use Rattle.key.proofs.Ranges.{kind-sized}
 use Rattle.key.proofs.KeyNumbers.{form-bits, form-foreign}
 
@@ -80,11 +80,13 @@ then-length false number at f (refuses m p) fs n h e = clash cc
 then-length false number at f (gives gs) fs n h e = let q : fs ≡ f ∷ gs = cc in ap length q ∙ ap suc (h gs refl)
 
 read-length : (at : ℕ) (ks : List Kind) (key : List ℕ) (fs : List Field) → readFields at ks key ≡ gives fs → length fs ≡ length ks
-unfolding readFields
-read-length at [] key fs e = let q : fs ≡ [] = cc in ap length q
+read-length at [] key fs e =
+    let h : gives [] ≡ gives fs = sym (read-none at key) ∙ e in
+    let q : fs ≡ [] = cc in
+    ap length q
 read-length at (k ∷ ks) key fs e =
     then-length (notCanonical (formOf k) (numberFrom 0 (take (bytesOf k) key))) 12 at (fieldFor (valueOf k (bitsFrom (formOf k) (numberFrom 0 (take (bytesOf k) key)))))
-    (readFields (suc at) ks (drop (bytesOf k) key)) fs (length ks) (λ gs q. read-length (suc at) ks (drop (bytesOf k) key) gs q) e
+    (readFields (suc at) ks (drop (bytesOf k) key)) fs (length ks) (λ gs q. read-length (suc at) ks (drop (bytesOf k) key) gs q) (sym (read-more at k ks key) ∙ e)
 
 -- ---- where the passes stand
 
@@ -164,8 +166,7 @@ module _ (s : Shape) (few : s .count ≤ 12) (twelve : length (s .places) ≡ 12
         rest = readFields (suc at) (drop (suc at) ks) (drop (from + w) key)
 
         fields-left : readFields at (drop at ks) (drop from key) ≡ refuseIf t 12 at (mapped (λ fs. fieldFor (valueOf k b) ∷ fs) rest)
-        unfolding readFields
-        fields-left = rw (kinds-left at d h, ← w-is .0, ← n-is, ← own-test, ← own-bits, drop-drop w from key)
+        fields-left = ap (λ (l : List Kind). readFields at l (drop from key)) (kinds-left at d h) ∙ read-more at k (drop (suc at) ks) (drop from key) ∙ rw (← w-is .0, ← n-is, ← own-test, ← own-bits, drop-drop w from key)
 
         pub read-stop : t ≡ true → recordedOf (refuses 12 at) ≡ recordedOf (readOf s key)
         read-stop f =
@@ -185,10 +186,9 @@ module _ (s : Shape) (few : s .count ≤ 12) (twelve : length (s .places) ≡ 12
             )
 
     pub read-end : s .count ≤ at → recordedOf (gives r) ≡ recordedOf (readOf s key)
-    unfolding readFields
     read-end h =
         let none : drop at ks ≡ [] = drop-of-length-le ks {i = at} (omega (arith, count-kinds)) in
-        finish-none r at ∙ (rw none at (filled .3))
+        finish-none r at ∙ ap (finishedAt at r) (sym (read-none at (drop from key))) ∙ (rw none at (filled .3))
 
 -- ---- the whole
 
@@ -203,22 +203,20 @@ module _ (s : Shape) (key : List ℕ) {t : Bool} (count-is : t ≡ badCount (s .
     read-bad-length h = rw (← count-is, count-good, ← n-is, ne-eqb (length key) n h)
 
     pub read-start : s .count ≤ 12 → length (s .places) ≡ 12 → length key ≡ n → {r : Record} → r ≡ blank → Filled s key (record { fields = r .fields; count = s .count }) 0 0
-    unfolding readOf
     read-start few twelve h e = rw e (
       omega arith,
       omega (arith, n-is),
       refl,
       finish-blank (s .count) (readFields 0 (kindsIn s) key) (λ fs q. read-length 0 (kindsIn s) key fs q ∙ count-kinds s few twelve)
-          ∙ rw (← count-is, count-good, ← n-is, eq-eqb (length key) n h),
+          ∙ sym (ap recordedOf (read-by s key) ∙ rw (← count-is, count-good, ← n-is, eq-eqb (length key) n h)),
       omega arith,
       few,
     )
 
 -- what was read has as many fields as the shape has kinds
 pub read-count : (s : Shape) (key : List ℕ) (r : Record) → length (s .places) ≡ 12 → readOf s key ≡ gives r → (r .count ≡ s .count) × (s .count ≤ 12)
-unfolding readOf
 read-count s key r twelve e =
-    let past-11 = refuse-passes (badCount (s .count)) 11 0 _ r e in
+    let past-11 = refuse-passes (badCount (s .count)) 11 0 _ r (sym (read-by s key) ∙ e) in
     let past-9 = refuse-passes (not (eqb (length key) (bytesIn (kindsIn s)))) 9 0 _ r (past-11 .1) in
     let m = mapped-gives recordOf (readFields 0 (kindsIn s) key) (past-9 .1) in
     let few = good-count (s .count) (past-11 .0) in

@@ -16,13 +16,14 @@ use Rattle.value.specs.declared.Value.{Value}
 use Rattle.value.specs.Kinds.{kindOf, bytesOf}
 use Rattle.value.specs.Meaning.{exactOf}
 use Rattle.value.specs.Outcome.{gives, refuses, refuseIf}
+use Rattle.value.specs.Rules.{chain, eachOf}
 use Rattle.record.specs.declared.Field.{Field}
 use Rattle.record.specs.declared.Record.{Record}
 use Rattle.record.specs.Record.{fieldsOf, badCount}
 use Rattle.record.proofs.Record as record-type
 use Rattle.key.specs.declared.Written.{Written}
 use Rattle.key.specs.declared.Written.the-variants as written
-use Rattle.key.specs.Key.{keyNumber, bigEndian, fieldKey, keyOf, nanThen, writtenOutcome, writeOf, writeExit}
+use Rattle.key.specs.Key.{keyNumber, bigEndian, fieldKey, keyOf, nanRules, writtenOutcome, writeOf, writeExit}
 use Rattle.key.specs.Steps.{put, FirstNan}
 use Rattle.key.proofs.Bytes.{length-big}
 use Rattle.key.proofs.NumberBytes.{length-put, put-nil, put-put}
@@ -50,7 +51,7 @@ module _ (r : Record) where
   Counted n at = (at ≤ r .count) × (n ≡ length (keyOf (take at (fieldsOf r)))) × (n ≤ 8 * at)
 
   abbrev pub Passed : ℕ → Type 0
-  Passed at = (at ≤ r .count) × ((n : ℕ) → nanThen 0 (fieldsOf r) (gives n) ≡ nanThen at (drop at (fieldsOf r)) (gives n))
+  Passed at = (at ≤ r .count) × ((n : ℕ) → chain (nanRules 0 (fieldsOf r)) (gives n) ≡ chain (nanRules at (drop at (fieldsOf r))) (gives n))
 
   abbrev pub Laid : List ℕ → List ℕ → ℕ → ℕ → Type 0
   Laid old now to at = (at ≤ r .count) × (to ≡ length (keyOf (take at (fieldsOf r)))) × (now ≡ put 0 (keyOf (take at (fieldsOf r))) old) × (length now ≡ length old) × (to ≤ 8 * at)
@@ -112,8 +113,8 @@ module _ (r : Record) (few : r .count ≤ 12) (twelve : length (r .fields) ≡ 1
   pass-none = (omega arith, λ n. refl)
 
   module _ (at : ℕ) (d : Field) (h : at < r .count) (p : Passed r at) {t : Bool} (t-is : t ≡ isNone (exactOf (getD (r .fields) at d .value))) where
-    pass-here : (n : ℕ) → nanThen 0 fs (gives n) ≡ refuseIf t 1 at (nanThen (suc at) (drop (suc at) fs) (gives n))
-    unfolding nanThen
+    pass-here : (n : ℕ) → chain (nanRules 0 fs) (gives n) ≡ refuseIf t 1 at (chain (nanRules (suc at) (drop (suc at) fs)) (gives n))
+    unfolding eachOf
     pass-here n = p .1 n ∙ rw (drop-cons fs at d (inside at d h), own at d h, ← t-is)
 
     pub pass-step : t ≡ false → Passed r (at + 1)
@@ -123,7 +124,7 @@ module _ (r : Record) (few : r .count ≤ 12) (twelve : length (r .fields) ≡ 1
     pass-stop f n = pass-here n ∙ rw (f, lt-ltb at (r .count) h)
 
   pub pass-end : (at : ℕ) → r .count ≤ at → Passed r at → FirstNan r at
-  unfolding nanThen
+  unfolding eachOf
   pass-end at h p n = p .1 n ∙ rw (drop-of-length-le fs {i = at} (omega (arith, count-fields)), le-ltb at (r .count) h)
 
   -- ---- the keys
@@ -180,7 +181,7 @@ module _ (r : Record) (old : List ℕ) where
   write-bad-count q f e = refused-answers 11 0 e (rw (← q, f))
 
   module _ {t : Bool} (count-is : t ≡ badCount (r .count)) (count-good : t ≡ false) {n : ℕ} (n-is : n ≡ length (keyOf (fieldsOf r))) where
-    past-count : refuseIf (ltb (length old) n) 10 0 (nanThen 0 (fieldsOf r) (gives n)) ≡ writeOf r (length old)
+    past-count : refuseIf (ltb (length old) n) 10 0 (chain (nanRules 0 (fieldsOf r)) (gives n)) ≡ writeOf r (length old)
     unfolding writeOf
     past-count = rw (← count-is, count-good, n-is)
 

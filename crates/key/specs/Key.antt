@@ -1,7 +1,7 @@
 -- The key of a record: written, and read back. RULES.md: Keys, Refusals.
 use Prim.Native.Nat.{ℕ, zero, suc, _+_, _-_, _*_, _/_, _%_, _^_}
 use mathlib.Core.Bool.{Bool, false, not, _||_, cond}
-use mathlib.Core.List.{List, [], _∷_, _++_}
+use mathlib.Core.List.{List, [], _∷_, _++_, map}
 use lib.Dec.{eqb, ltb, leb}
 use lib.ListN.{length, take, drop}
 use lib.IntN.{ℤ, pos, negsuc}
@@ -11,7 +11,8 @@ use Rattle.value.specs.declared.Kind.{Kind}
 use Rattle.value.specs.declared.Value.{Value}
 use Rattle.value.specs.Kinds.{Form, unsigned, signed, float, formOf, kindOf, bytesOf}
 use Rattle.value.specs.Meaning.{Content, natural, integer, real, contentOf, exactOf, floatBits, valueOf}
-use Rattle.value.specs.Outcome.{Outcome, gives, refuses, refuseIf, refusalOf, mapped}
+use Rattle.value.specs.Outcome.{Outcome, gives, refuses, refusalOf}
+use Rattle.value.specs.Rules.{Rule, rule, chain, eachOf}
 use Rattle.record.specs.declared.Field.{Field}
 use Rattle.record.specs.declared.Record.{Record}
 use Rattle.record.specs.declared.Shape.{Shape}
@@ -62,17 +63,19 @@ abbrev pub writtenOutcome : Written → Outcome ℕ
 writtenOutcome (written.Length n) = gives n
 writtenOutcome (written.Refused f) = refusalOf f
 
--- 1: the index of the first NaN, if there is one
-unfoldable pub nanThen : {A : Type 0} → ℕ → List Field → Outcome A → Outcome A
-nanThen at [] next = next
-nanThen at (f ∷ fs) next = refuseIf (isNone (exactOf (f .value))) 1 at (nanThen (suc at) fs next)
+-- 1 for a field that is a NaN; `at` is the index of the first
+abbrev pub nanRules : ℕ → List Field → List Rule
+nanRules at fs = eachOf (λ (f : Field). rule 1 0 (isNone (exactOf (f .value))) ∷ []) at fs
 
 -- into a buffer of `room` bytes
+abbrev pub writeRules : Record → ℕ → List Rule
+writeRules r room =
+    rule 11 0 (badCount (r .count))
+    ∷ rule 10 0 (ltb room (length (keyOf (fieldsOf r))))
+    ∷ nanRules 0 (fieldsOf r)
+
 unfoldable pub writeOf : Record → ℕ → Outcome ℕ
-writeOf r room =
-    refuseIf (badCount (r .count)) 11 0
-    (refuseIf (ltb room (length (keyOf (fieldsOf r)))) 10 0
-    (nanThen 0 (fieldsOf r) (gives (length (keyOf (fieldsOf r))))))
+writeOf r room = chain (writeRules r room) (gives (length (keyOf (fieldsOf r))))
 
 -- the buffer at the end: the key and what stood behind it, or after a refusal what it was
 abbrev pub bufferAfter : Outcome ℕ → List ℕ → List ℕ → List ℕ
@@ -112,17 +115,23 @@ unfoldable pub bytesIn : List Kind → ℕ
 bytesIn [] = 0
 bytesIn (k ∷ ks) = bytesOf k + bytesIn ks
 
--- one field, whose key is n, and then the others
-abbrev pub fieldThen : ℕ → Kind → ℕ → Outcome (List Field) → Outcome (List Field)
-fieldThen at k n rest = refuseIf (notCanonical (formOf k) n) 12 at (mapped (λ fs. fieldFor (valueOf k (bitsFrom (formOf k) n)) ∷ fs) rest)
+-- each field's kind, and the number of its key
+unfoldable pub numbersIn : List Kind → List ℕ → List (Kind × ℕ)
+numbersIn [] key = []
+numbersIn (k ∷ ks) key = (k, numberFrom 0 (take (bytesOf k) key)) ∷ numbersIn ks (drop (bytesOf k) key)
 
--- field by field; `at` is the index of the first
-unfoldable pub readFields : ℕ → List Kind → List ℕ → Outcome (List Field)
-readFields at [] key = gives []
-readFields at (k ∷ ks) key = fieldThen at k (numberFrom 0 (take (bytesOf k) key)) (readFields (suc at) ks (drop (bytesOf k) key))
+-- `at` is the index of the first field
+abbrev pub canonicalRules : ℕ → List (Kind × ℕ) → List Rule
+canonicalRules at ns = eachOf (λ (f : Kind × ℕ). rule 12 0 (notCanonical (formOf (f .0)) (f .1)) ∷ []) at ns
+
+abbrev pub fieldsFrom : List (Kind × ℕ) → List Field
+fieldsFrom ns = map (λ (f : Kind × ℕ). fieldFor (valueOf (f .0) (bitsFrom (formOf (f .0)) (f .1)))) ns
+
+abbrev pub readRules : Shape → List ℕ → List Rule
+readRules s key =
+    rule 11 0 (badCount (s .count))
+    ∷ rule 9 0 (not (eqb (length key) (bytesIn (kindsIn s))))
+    ∷ canonicalRules 0 (numbersIn (kindsIn s) key)
 
 unfoldable pub readOf : Shape → List ℕ → Outcome Record
-readOf s key =
-    refuseIf (badCount (s .count)) 11 0
-    (refuseIf (not (eqb (length key) (bytesIn (kindsIn s)))) 9 0
-    (mapped recordOf (readFields 0 (kindsIn s) key)))
+readOf s key = chain (readRules s key) (gives (recordOf (fieldsFrom (numbersIn (kindsIn s) key))))

@@ -2,15 +2,19 @@
 use Prim.Native.Nat.{ℕ, _+_, _-_, _*_, _%_, _^_, _≤_, _<_}
 use mathlib.Core.Path.{_≡_}
 use mathlib.Core.Bool.{Bool, false, _||_, cond}
-use mathlib.Core.List.{List, _++_}
+use mathlib.Core.List.{List, _∷_, _++_}
 use lib.Dec.{eqb, ltb, leb}
 use lib.ListN.{length, take, drop}
 use Rattle.float.specs.Format.{fractionOf, exponentOf, signOf, infOf}
-use Rattle.value.specs.Kinds.{Form, unsigned, signed, float}
-use Rattle.value.specs.Outcome.{gives, refuseIf}
+use Rattle.value.specs.Kinds.{Form, unsigned, signed, float, formOf}
+use Rattle.value.specs.Outcome.{Outcome, gives, refuseIf, mapped}
+use Rattle.value.specs.Rules.{chain}
+use Rattle.value.specs.declared.Kind.{Kind}
+use Rattle.value.specs.Meaning.{valueOf}
+use Rattle.record.specs.declared.Field.{Field}
 use Rattle.record.specs.declared.Record.{Record}
-use Rattle.record.specs.Record.{fieldsOf}
-use Rattle.key.specs.Key.{floatKey, patternFrom, nanThen}
+use Rattle.record.specs.Record.{fieldFor, fieldsOf}
+use Rattle.key.specs.Key.{floatKey, patternFrom, bitsFrom, notCanonical, nanRules, numbersIn, canonicalRules, fieldsFrom}
 use Rattle.key.specs.declared.Layout.{Layout}
 use Rattle.key.specs.declared.Layout.the-variants as layout
 
@@ -57,4 +61,12 @@ put at k l = take at l ++ (k ++ drop (at + length k) l)
 
 -- i is the index of the first NaN, or the count
 abbrev pub FirstNan : Record → ℕ → Type 0
-FirstNan r i = (n : ℕ) → nanThen 0 (fieldsOf r) (gives n) ≡ refuseIf (ltb i (r .count)) 1 i (gives n)
+FirstNan r i = (n : ℕ) → chain (nanRules 0 (fieldsOf r)) (gives n) ≡ refuseIf (ltb i (r .count)) 1 i (gives n)
+
+-- the fields of a key, or 12; `at` is the index of the first
+unfoldable pub readFields : ℕ → List Kind → List ℕ → Outcome (List Field)
+readFields at ks key = chain (canonicalRules at (numbersIn ks key)) (gives (fieldsFrom (numbersIn ks key)))
+
+-- one field, whose key is n, and then the others
+abbrev pub fieldThen : ℕ → Kind → ℕ → Outcome (List Field) → Outcome (List Field)
+fieldThen at k n rest = refuseIf (notCanonical (formOf k) n) 12 at (mapped (λ fs. fieldFor (valueOf k (bitsFrom (formOf k) n)) ∷ fs) rest)

@@ -10,11 +10,11 @@ use Rattle.record.proofs.Given.{kinds-shape, compared-records}
 
 module _ (a b : Record) where
   min-at : (o : Order) → compareOf a b ≡ gives o → minOf a b ≡ chosenBy (decidingOf (fieldsOf a) (fieldsOf b)) a b o
-  unfolding minOf
+  unfolding minOf chosenBy
   min-at o h = let c = compared-records a b o h in rw (c .0, c .1, kinds-shape (fieldsOf a) (fieldsOf b) (c .2), c .3)
 
   max-at : (o : Order) → compareOf a b ≡ gives o → maxOf a b ≡ chosenBy (decidingOf (fieldsOf a) (fieldsOf b)) b a o
-  unfolding maxOf
+  unfolding maxOf chosenBy
   max-at o h = let c = compared-records a b o h in rw (c .0, c .1, kinds-shape (fieldsOf a) (fieldsOf b) (c .2), c .3)
 
   pub record-min-greater : compareOf a b ≡ gives Greater → minOf a b ≡ gives b

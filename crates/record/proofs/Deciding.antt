@@ -7,14 +7,16 @@ use lib.Dec.{eqb, ltb}
 use borrow.Author.Tests.{ltb-false}
 use Rattle.float.specs.declared.Order.{Order}
 use Rattle.float.proofs.Tests.{neither}
-use Rattle.value.specs.Outcome.{Outcome, gives, refuses, refuseIf, refusalOf, andThen}
+use Rattle.value.specs.Outcome.{Outcome, gives, refuses, refusalOf, andThen}
+use Rattle.value.specs.Rules.{chain}
+use Rattle.value.proofs.Rules.{chain-then}
 use Rattle.value.specs.declared.Refusal.{Refusal}
 use Rattle.cmp.specs.Choose.{chosenBy}
 use Rattle.record.specs.declared.Record.{Record}
 use Rattle.record.specs.declared.comparisons.Decision.{Decision}
 use Rattle.record.specs.declared.comparisons.Decided.{Decided}
 use Rattle.record.specs.declared.comparisons.Decided.the-variants as decided
-use Rattle.record.specs.Record.{fieldsOf, badCount, shapesDiffer, lexicalOf, decidingOf, likeThen, compareOf, minOf, maxOf}
+use Rattle.record.specs.Record.{fieldsOf, badCount, shapesDiffer, lexicalOf, decidingOf, recordRules, compareOf, minOf, maxOf}
 use Rattle.record.specs.Decide.{decidedOutcome, decisionFrom, decideOf, chosenFrom}
 
 -- ---- after a decision
@@ -52,33 +54,25 @@ module _ (a b : Record) {bad : Bool} (u : bad ≡ (badCount (a .count) || badCou
 
 -- ---- what follows two records of one shape
 
-like-then : {A B : Type 0} (a b : Record) (o : Outcome A) (next : A → Outcome B) → andThen (likeThen a b o) next ≡ likeThen a b (andThen o next)
-like-then {A} {B} a b o next = go (badCount (a .count) || badCount (b .count)) (shapesDiffer (fieldsOf a) (fieldsOf b))
-  where
-    go : (s t : Bool) → andThen (refuseIf s 11 0 (refuseIf t 7 0 o)) next ≡ refuseIf s 11 0 (refuseIf t 7 0 (andThen o next))
-    go true t = refl
-    go false true = refl
-    go false false = refl
-
 abbrev pub orderIn : Decision → Outcome Order
 orderIn d = gives (d .order)
 
 module _ (a b : Record) where
   pub compare-decided : andThen (decideOf a b) orderIn ≡ compareOf a b
   unfolding decideOf compareOf
-  compare-decided = like-then a b (gives (decisionFrom 0 (fieldsOf a) (fieldsOf b))) orderIn
+  compare-decided = chain-then orderIn (recordRules a b) (gives (decisionFrom 0 (fieldsOf a) (fieldsOf b)))
 
   chosen-decided : (one other : Record) → andThen (decideOf a b) (chosenFrom one other)
-      ≡ likeThen a b (chosenBy (decidingOf (fieldsOf a) (fieldsOf b)) one other (lexicalOf (fieldsOf a) (fieldsOf b)))
+      ≡ chain (recordRules a b) (chosenBy (decidingOf (fieldsOf a) (fieldsOf b)) one other (lexicalOf (fieldsOf a) (fieldsOf b)))
   unfolding decideOf
   chosen-decided one other =
-      like-then a b (gives (decisionFrom 0 (fieldsOf a) (fieldsOf b))) (chosenFrom one other)
-      ∙ ap (λ (n : ℕ). likeThen a b (chosenBy n one other (lexicalOf (fieldsOf a) (fieldsOf b)))) (zero-add (decidingOf (fieldsOf a) (fieldsOf b)))
+      chain-then (chosenFrom one other) (recordRules a b) (gives (decisionFrom 0 (fieldsOf a) (fieldsOf b)))
+      ∙ ap (λ (n : ℕ). chain (recordRules a b) (chosenBy n one other (lexicalOf (fieldsOf a) (fieldsOf b)))) (zero-add (decidingOf (fieldsOf a) (fieldsOf b)))
 
   pub min-decided : andThen (decideOf a b) (chosenFrom a b) ≡ minOf a b
-  unfolding minOf
+  unfolding minOf chosenBy
   min-decided = chosen-decided a b
 
   pub max-decided : andThen (decideOf a b) (chosenFrom b a) ≡ maxOf a b
-  unfolding maxOf
+  unfolding maxOf chosenBy
   max-decided = chosen-decided b a

@@ -2,13 +2,14 @@
 use Prim.Native.Nat.{ℕ, _+_}
 use mathlib.Core.List.{List}
 use Rattle.value.specs.Outcome.{Outcome, gives, refusalOf}
+use Rattle.value.specs.Rules.{chain}
 use Rattle.cmp.specs.Choose.{chosenBy}
 use Rattle.record.specs.declared.Field.{Field}
 use Rattle.record.specs.declared.Record.{Record}
 use Rattle.record.specs.declared.comparisons.Decision.{Decision}
 use Rattle.record.specs.declared.comparisons.Decided.{Decided}
 use Rattle.record.specs.declared.comparisons.Decided.the-variants as decided
-use Rattle.record.specs.Record.{fieldsOf, lexicalOf, decidingOf, likeThen}
+use Rattle.record.specs.Record.{fieldsOf, lexicalOf, decidingOf, recordRules}
 
 abbrev pub decidedOutcome : Decided → Outcome Decision
 decidedOutcome (decided.Is d) = gives d
@@ -19,7 +20,7 @@ abbrev pub decisionFrom : ℕ → List Field → List Field → Decision
 decisionFrom at xs ys = record { order = lexicalOf xs ys; at = at + decidingOf xs ys }
 
 unfoldable pub decideOf : Record → Record → Outcome Decision
-decideOf a b = likeThen a b (gives (decisionFrom 0 (fieldsOf a) (fieldsOf b)))
+decideOf a b = chain (recordRules a b) (gives (decisionFrom 0 (fieldsOf a) (fieldsOf b)))
 
 abbrev pub chosenFrom : Record → Record → Decision → Outcome Record
 chosenFrom one other d = chosenBy (d .at) one other (d .order)

@@ -12,9 +12,10 @@ use Rattle.value.specs.declared.Kind.the-variants as kind
 use Rattle.value.specs.declared.Value.{Value}
 use Rattle.value.specs.declared.Value.the-variants.{U8}
 use Rattle.value.specs.Kinds.{kindOf}
-use Rattle.value.specs.Outcome.{Outcome, gives, refuses, refuseIf, refusalOf}
+use Rattle.value.specs.Outcome.{Outcome, gives, refuses, refusalOf}
+use Rattle.value.specs.Rules.{Rule, rule, chain}
 use Rattle.cmp.specs.Compare.{kindsDiffer}
-use Rattle.cmp.specs.Choose.{valueOrder, chosenBy}
+use Rattle.cmp.specs.Choose.{valueOrder, unordered, choose}
 use Rattle.record.specs.declared.Field.{Field}
 use Rattle.record.specs.declared.Record.{Record}
 use Rattle.record.specs.declared.Place.{Place}
@@ -97,15 +98,14 @@ shapesDiffer [] (y ∷ ys) = true
 shapesDiffer (x ∷ xs) [] = true
 shapesDiffer (x ∷ xs) (y ∷ ys) = kindsDiffer (x .value) (y .value) || shapesDiffer xs ys
 
--- rules 11 and 7, then what follows
-abbrev pub likeThen : {A : Type 0} → Record → Record → Outcome A → Outcome A
-likeThen a b next =
-    refuseIf (badCount (a .count) || badCount (b .count)) 11 0
-    (refuseIf (shapesDiffer (fieldsOf a) (fieldsOf b)) 7 0
-    next)
+abbrev pub recordRules : Record → Record → List Rule
+recordRules a b =
+    rule 11 0 (badCount (a .count) || badCount (b .count))
+    ∷ rule 7 0 (shapesDiffer (fieldsOf a) (fieldsOf b))
+    ∷ []
 
 unfoldable pub compareOf : Record → Record → Outcome Order
-compareOf a b = likeThen a b (gives (lexicalOf (fieldsOf a) (fieldsOf b)))
+compareOf a b = chain (recordRules a b) (gives (lexicalOf (fieldsOf a) (fieldsOf b)))
 
 -- ---- the choice between two
 
@@ -116,24 +116,30 @@ decidingOf (x ∷ xs) [] = 0
 decidingOf (x ∷ xs) (y ∷ ys) = cond (isEqual (valueOrder (x .value) (y .value))) (suc (decidingOf xs ys)) 0
 
 -- as for values, with the index of the deciding field as the place of 8
+abbrev pub choiceRules : Record → Record → List Rule
+choiceRules a b = recordRules a b ++ (unordered (decidingOf (fieldsOf a) (fieldsOf b)) (lexicalOf (fieldsOf a) (fieldsOf b)) ∷ [])
+
 unfoldable pub minOf : Record → Record → Outcome Record
-minOf a b = likeThen a b (chosenBy (decidingOf (fieldsOf a) (fieldsOf b)) a b (lexicalOf (fieldsOf a) (fieldsOf b)))
+minOf a b = chain (choiceRules a b) (gives (choose a b (lexicalOf (fieldsOf a) (fieldsOf b))))
 
 unfoldable pub maxOf : Record → Record → Outcome Record
-maxOf a b = likeThen a b (chosenBy (decidingOf (fieldsOf a) (fieldsOf b)) b a (lexicalOf (fieldsOf a) (fieldsOf b)))
+maxOf a b = chain (choiceRules a b) (gives (choose b a (lexicalOf (fieldsOf a) (fieldsOf b))))
 
 -- ---- making, setting and reading
 
 -- a place past the twelve is 11: its field would make the count too high
+abbrev pub placeRules : ℕ → List Rule
+placeRules at = rule 11 0 (ltb 11 at) ∷ []
+
 unfoldable pub setOf : Record → ℕ → Value → Outcome Record
-setOf r at v = refuseIf (ltb 11 at) 11 0 (gives (record { fields = set (r .fields) at (fieldFor v); count = r .count }))
+setOf r at v = chain (placeRules at) (gives (record { fields = set (r .fields) at (fieldFor v); count = r .count }))
 
 unfoldable pub getOf : Record → ℕ → Outcome Value
-getOf r at = refuseIf (ltb 11 at) 11 0 (gives (valueAt (r .fields) at))
+getOf r at = chain (placeRules at) (gives (valueAt (r .fields) at))
 
 -- one more field behind those that count
 unfoldable pub pushOf : Record → Value → Outcome Record
-pushOf r v = refuseIf (ltb 11 (r .count)) 11 0 (gives (record { fields = set (r .fields) (r .count) (fieldFor v); count = suc (r .count) }))
+pushOf r v = chain (placeRules (r .count)) (gives (record { fields = set (r .fields) (r .count) (fieldFor v); count = suc (r .count) }))
 
 -- ---- shapes
 
@@ -148,8 +154,11 @@ abbrev pub shapeFor : List Kind → Shape
 shapeFor ks = record { places = map placeFor ks ++ replicate (12 - length ks) (placeFor kind.U8); count = length ks }
 
 -- a count of 0 or above 12 is 11
+abbrev pub countRules : ℕ → List Rule
+countRules n = rule 11 0 (badCount n) ∷ []
+
 unfoldable pub shapeOf : Record → Outcome Shape
-shapeOf r = refuseIf (badCount (r .count)) 11 0 (gives (shapeFor (kindsOf (fieldsOf r))))
+shapeOf r = chain (countRules (r .count)) (gives (shapeFor (kindsOf (fieldsOf r))))
 
 -- the record with these fields, and u8 0 in the places past them
 abbrev pub recordOf : List Field → Record

@@ -46,12 +46,12 @@ same-pattern (fin s m e) w = refl
 
 -- so the word beside a sample changes nothing
 pub any-word : (x : Float) (w : ℕ) → mapped bitsOf (convertOf (F32 x w) kind.U16) ≡ f32ToU16 x
-unfolding f32ToU16 convertOf
+unfolding f32ToU16 convertOf intoOf
 any-word x w = ap (λ (X : Exact). mapped bitsOf (intoOf kind.U16 (times (stepOf binary32) X))) (same-pattern x w ∙ sym (same-pattern x 0))
 
 module _ (x : Float) where
   by-exact : {X : Exact} → exactOf x ≡ X → f32ToU16 x ≡ mapped bitsOf (intoOf kind.U16 (times (stepOf binary32) X))
-  unfolding f32ToU16 convertOf
+  unfolding f32ToU16 convertOf intoOf
   by-exact q = ap (λ (b : ℕ). mapped bitsOf (intoOf kind.U16 (times (stepOf binary32) (patternOf 23 8 b)))) (bits-are x) ∙ ap (λ (X : Exact). mapped bitsOf (intoOf kind.U16 (times (stepOf binary32) X))) q
 
   pub nan-refused : exactOf x ≡ notNumber → f32ToU16 x ≡ refuses 1 0

@@ -56,15 +56,15 @@ u16-made x = refl
 -- ---- the samples
 
 pub u8-wider : (n : ℕ) → n < 2 ^ 8 → u8ToU16 n ≡ gives n
-unfolding u8ToU16 convertOf
+unfolding u8ToU16 convertOf intoOf
 u8-wider n h = into-inside kind.U16 16 refl false n u16-made (le-ltb (2 ^ 16 - 1) n (omega arith))
 
 u16-narrower : (n : ℕ) → isWide n ≡ false → u16ToU8 n ≡ gives n
-unfolding u16ToU8 convertOf
+unfolding u16ToU8 convertOf intoOf
 u16-narrower n h = into-inside kind.U8 8 refl false n u8-made h
 
 u16-wide : (n : ℕ) → isWide n ≡ true → u16ToU8 n ≡ refuses 4 0
-unfolding u16ToU8 convertOf
+unfolding u16ToU8 convertOf intoOf
 u16-wide n h = ap (mapped bitsOf) (into-outside kind.U8 8 refl false n h)
 
 -- what a u16 is narrowed to is a byte

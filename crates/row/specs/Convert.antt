@@ -1,7 +1,7 @@
 -- The conversion of a row into a second row. RULES.md: Rows, Exact conversion.
 use Prim.Native.Nat.{ℕ}
 use mathlib.Core.Bool.{Bool, not, _&&_}
-use mathlib.Core.List.{List}
+use mathlib.Core.List.{List, [], _∷_}
 use lib.Dec.{eqb, ltb}
 use lib.IntN.{pos}
 use lib.ListN.{length}
@@ -10,7 +10,8 @@ use Rattle.value.specs.declared.Kind.the-variants as kind
 use Rattle.value.specs.declared.Value.{Value}
 use Rattle.value.specs.declared.Value.the-variants.{U8, U16, F32}
 use Rattle.value.specs.Meaning.{Content, natural, integer, real, contentOf, bitsOf}
-use Rattle.value.specs.Outcome.{Outcome, mapped, refuseIf, Success}
+use Rattle.value.specs.Outcome.{Outcome, mapped, Success}
+use Rattle.value.specs.Rules.{Rule, rule, chain}
 use Rattle.convert.specs.Convert.{convertOf}
 use Rattle.row.specs.Row.{rowAnswer, rowResults, rowExit}
 
@@ -40,9 +41,12 @@ f32ToU16 x = mapped bitsOf (convertOf (F32 x 0) kind.U16)
 
 -- ---- the row
 
--- lengths that differ are 9; then the first sample that is refused decides
+abbrev pub lengthRules : {A B : Type 0} → List A → List B → List Rule
+lengthRules src dst = rule 9 0 (not (eqb (length src) (length dst))) ∷ []
+
+-- and then the first sample that is refused decides
 unfoldable pub convertAnswer : {A B : Type 0} → (A → Outcome B) → List A → List B → Outcome Success
-convertAnswer conv src dst = refuseIf (not (eqb (length src) (length dst))) 9 0 (rowAnswer conv 0 src)
+convertAnswer conv src dst = chain (lengthRules src dst) (rowAnswer conv 0 src)
 
 unfoldable pub convertExit : {A B : Type 0} → (A → Outcome B) → List A → List B → List B
 convertExit conv src dst = rowExit (convertAnswer conv src dst) (rowResults conv src) dst

@@ -8,12 +8,13 @@ use borrow.Author.Tests.{eq-eqb, ne-eqb, leb-false}
 use Rattle.value.specs.declared.Kind.{Kind}
 use Rattle.value.specs.declared.Value.{Value}
 use Rattle.value.specs.Outcome.{Outcome, refuses, refuseIf}
+use Rattle.value.specs.Rules.{chain}
 use Rattle.cmp.specs.Choose as choose
 use Rattle.convert.specs.Convert as convert
 use Rattle.float.proofs.Tests.{neither}
 use Rattle.silamogo.specs.declared.Sample.{Sample}
 use Rattle.silamogo.specs.Samples.{unnamed, anyUnnamed, kindFor, tooWide, anyWide, valueFor, ruleFor}
-use Rattle.silamogo.specs.Single.{twoThen, clampOf, convertOf, notFloat, ofFloat, floatThen}
+use Rattle.silamogo.specs.Single.{twoThen, clampOf, convertOf, notFloat, ofFloat, floatRules}
 
 -- ---- the tests, one after the other
 
@@ -101,10 +102,10 @@ module _ (v : Sample) (to : ℕ) {r : ℕ} (q : r ≡ ruleFor (anyUnnamed (v .ki
 
 module _ (s : Sample) {r : ℕ} (q : r ≡ ruleFor (notFloat (s .kind)) (anyWide (s ∷ []))) where
   module _ {A : Type 0} (next : Outcome A) where
-    pub float-stop : (r ≡ 0 → ⊥) → refuses r 0 ≡ floatThen s next
+    pub float-stop : (r ≡ 0 → ⊥) → refuses r 0 ≡ chain (floatRules s) next
     float-stop h = rule-stop next (notFloat (s .kind)) (anyWide (s ∷ [])) q h
 
-    pub float-past : r ≡ 0 → next ≡ floatThen s next
+    pub float-past : r ≡ 0 → next ≡ chain (floatRules s) next
     float-past h = rule-past next (notFloat (s .kind)) (anyWide (s ∷ [])) q h
 
   pub float-narrow : r ≡ 0 → tooWide s ≡ false

@@ -9,7 +9,8 @@ use Rattle.float.specs.declared.Order.{Order}
 use Rattle.value.specs.declared.Kind.the-variants as kind
 use Rattle.value.specs.declared.Value.the-variants.{U8}
 use Rattle.value.specs.Meaning.{bitsOf}
-use Rattle.value.specs.Outcome.{Outcome, gives, refuses, refuseIf, refusalOf, Success, done, mapped}
+use Rattle.value.specs.Outcome.{Outcome, gives, refuses, refusalOf, Success, done, mapped}
+use Rattle.value.specs.Rules.{Rule, rule, chain}
 use Rattle.record.specs.declared.Field.{Field}
 use Rattle.record.specs.declared.Place.{Place}
 use Rattle.record.specs.declared.Record.{Record}
@@ -20,7 +21,7 @@ use Rattle.record.specs.declared.Made.the-variants as made
 use Rattle.record.specs.Record.{fieldFor, fieldsOf, placeFor, compareOf}
 use Rattle.key.specs.Key.{keyOf, writeOf, bufferAfter, readOf}
 use Rattle.silamogo.specs.declared.Sample.{Sample}
-use Rattle.silamogo.specs.Samples.{anyUnnamed, kindFor, valueFor, namedThen, bitsThen}
+use Rattle.silamogo.specs.Samples.{anyUnnamed, kindFor, valueFor, wideRule}
 
 -- ---- what two lists stand for
 
@@ -61,23 +62,28 @@ fieldBits f = bitsOf (f .value)
 abbrev pub uneven : List ℕ → List ℕ → Bool
 uneven ns bs = not (eqb (length ns) (length bs))
 
+abbrev pub twoRecordsRules : List ℕ → List ℕ → List ℕ → List ℕ → List Rule
+twoRecordsRules ns xs ms ys =
+    rule 7 0 (anyUnnamed ns || anyUnnamed ms)
+    ∷ rule 9 0 (uneven ns xs || uneven ms ys)
+    ∷ wideRule (samplesOf ns xs)
+    ∷ wideRule (samplesOf ms ys)
+    ∷ []
+
+abbrev pub fieldRules : List ℕ → List ℕ → List Rule
+fieldRules ns bs = rule 7 0 (anyUnnamed ns) ∷ rule 9 0 (uneven ns bs) ∷ wideRule (samplesOf ns bs) ∷ []
+
+abbrev pub roomRules : List ℕ → ℕ → List Rule
+roomRules ns room = rule 7 0 (anyUnnamed ns) ∷ rule 9 0 (not (eqb (length ns) room)) ∷ []
+
 -- ---- the calls
 
 unfoldable pub recordsOrder : List ℕ → List ℕ → List ℕ → List ℕ → Outcome Order
-recordsOrder ns xs ms ys =
-    refuseIf (anyUnnamed ns || anyUnnamed ms) 7 0
-    (refuseIf (uneven ns xs || uneven ms ys) 9 0
-    (bitsThen (samplesOf ns xs)
-    (bitsThen (samplesOf ms ys)
-    (compareOf (recordFor (samplesOf ns xs)) (recordFor (samplesOf ms ys))))))
+recordsOrder ns xs ms ys = chain (twoRecordsRules ns xs ms ys) (compareOf (recordFor (samplesOf ns xs)) (recordFor (samplesOf ms ys)))
 
 -- into a buffer of `room` bytes
 unfoldable pub keyLength : List ℕ → List ℕ → ℕ → Outcome ℕ
-keyLength ns bs room =
-    namedThen ns
-    (refuseIf (uneven ns bs) 9 0
-    (bitsThen (samplesOf ns bs)
-    (writeOf (recordFor (samplesOf ns bs)) room)))
+keyLength ns bs room = chain (fieldRules ns bs) (writeOf (recordFor (samplesOf ns bs)) room)
 
 -- the buffer at the end: the key and what stood behind it, or after a refusal what it was
 unfoldable pub keyExit : List ℕ → List ℕ → List ℕ → List ℕ
@@ -85,10 +91,7 @@ keyExit ns bs old = bufferAfter (keyLength ns bs (length old)) (keyOf (fieldsOf 
 
 -- into a lent row of `room` bits
 unfoldable pub recordRead : List ℕ → List ℕ → ℕ → Outcome Record
-recordRead ns key room =
-    namedThen ns
-    (refuseIf (not (eqb (length ns) room)) 9 0
-    (readOf (shapeFor ns) key))
+recordRead ns key room = chain (roomRules ns room) (readOf (shapeFor ns) key)
 
 -- the row at the end: the bits of each field, or after a refusal what it was
 abbrev pub bitsAfter : Outcome Record → List ℕ → List ℕ

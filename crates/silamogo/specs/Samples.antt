@@ -11,7 +11,7 @@ use Rattle.value.specs.declared.KindFound.the-variants.{Is, Nothing}
 use Rattle.value.specs.declared.Value.{Value}
 use Rattle.value.specs.Kinds.{kindAt, widthOf}
 use Rattle.value.specs.Meaning.{valueOf}
-use Rattle.value.specs.Outcome.{Outcome, refuseIf}
+use Rattle.value.specs.Rules.{Rule, rule}
 use Rattle.silamogo.specs.declared.Sample.{Sample}
 
 -- ---- kinds
@@ -54,13 +54,9 @@ valueFor s = valueOf (kindFor (s .kind)) (s .bits)
 
 -- ---- the rules before a call's own
 
--- 7: a number that names no kind
-abbrev pub namedThen : {A : Type 0} → List ℕ → Outcome A → Outcome A
-namedThen ns next = refuseIf (anyUnnamed ns) 7 0 next
-
--- 4: bits that the kind doesn't have
-abbrev pub bitsThen : {A : Type 0} → List Sample → Outcome A → Outcome A
-bitsThen ss next = refuseIf (ltb (firstWide ss) (length ss)) 4 (firstWide ss) next
+-- 4 at the first field with bits that its kind doesn't have
+abbrev pub wideRule : List Sample → Rule
+wideRule ss = rule 4 (firstWide ss) (ltb (firstWide ss) (length ss))
 
 -- ---- single samples, whose place is 0
 
@@ -68,9 +64,9 @@ unfoldable pub anyWide : List Sample → Bool
 anyWide [] = false
 anyWide (s ∷ ss) = tooWide s || anyWide ss
 
--- 7 and 4, of kind numbers and of samples
-abbrev pub samplesThen : {A : Type 0} → List ℕ → List Sample → Outcome A → Outcome A
-samplesThen ns ss next = namedThen ns (refuseIf (anyWide ss) 4 0 next)
+-- 7 for a number that names no kind, 4 for bits that a kind doesn't have
+abbrev pub samplesRules : List ℕ → List Sample → List Rule
+samplesRules ns ss = rule 7 0 (anyUnnamed ns) ∷ rule 4 0 (anyWide ss) ∷ []
 
 -- the number of the rule that holds, 0 for none
 abbrev pub ruleFor : Bool → Bool → ℕ

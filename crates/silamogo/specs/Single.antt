@@ -1,24 +1,28 @@
 -- The calls on single samples: rules 7 and 4, then the library's call on the values. RULES.md: The boundary.
 use Prim.Native.Nat.{ℕ}
 use mathlib.Core.Bool.{Bool, not, _||_, cond}
-use mathlib.Core.List.{[], _∷_}
+use mathlib.Core.List.{List, [], _∷_}
 use lib.Dec.{eqb}
 use lib.IntN.{ℤ}
 use Rattle.float.specs.declared.Class.{Class}
 use Rattle.float.specs.declared.Order.{Order}
 use Rattle.float.specs.Format.{classOf, positionOf}
 use Rattle.value.specs.declared.Value.{Value}
-use Rattle.value.specs.Outcome.{Outcome, gives, refuseIf}
+use Rattle.value.specs.Outcome.{Outcome, gives}
+use Rattle.value.specs.Rules.{Rule, rule, chain}
 use Rattle.cmp.specs.Compare as cmp
 use Rattle.cmp.specs.Choose as choose
 use Rattle.convert.specs.Convert as convert
 use Rattle.silamogo.specs.declared.Sample.{Sample}
-use Rattle.silamogo.specs.Samples.{kindFor, anyWide, valueFor, samplesThen}
+use Rattle.silamogo.specs.Samples.{kindFor, anyWide, valueFor, samplesRules}
 
 -- ---- two samples, and three
 
+abbrev pub twoRules : Sample → Sample → List Rule
+twoRules a b = samplesRules (a .kind ∷ b .kind ∷ []) (a ∷ b ∷ [])
+
 abbrev pub twoThen : {A : Type 0} → (Value → Value → Outcome A) → Sample → Sample → Outcome A
-twoThen call a b = samplesThen (a .kind ∷ b .kind ∷ []) (a ∷ b ∷ []) (call (valueFor a) (valueFor b))
+twoThen call a b = chain (twoRules a b) (call (valueFor a) (valueFor b))
 
 unfoldable pub compareOf : Sample → Sample → Outcome Order
 compareOf a b = twoThen cmp.compareOf a b
@@ -32,15 +36,19 @@ minOf a b = twoThen choose.minOf a b
 unfoldable pub maxOf : Sample → Sample → Outcome Value
 maxOf a b = twoThen choose.maxOf a b
 
+abbrev pub threeRules : Sample → Sample → Sample → List Rule
+threeRules v lower upper = samplesRules (v .kind ∷ lower .kind ∷ upper .kind ∷ []) (v ∷ lower ∷ upper ∷ [])
+
 unfoldable pub clampOf : Sample → Sample → Sample → Outcome Value
-clampOf v lower upper =
-    samplesThen (v .kind ∷ lower .kind ∷ upper .kind ∷ []) (v ∷ lower ∷ upper ∷ [])
-    (choose.clampOf (valueFor v) (valueFor lower) (valueFor upper))
+clampOf v lower upper = chain (threeRules v lower upper) (choose.clampOf (valueFor v) (valueFor lower) (valueFor upper))
 
 -- ---- to another kind
 
+abbrev pub kindRules : Sample → ℕ → List Rule
+kindRules v to = samplesRules (v .kind ∷ to ∷ []) (v ∷ [])
+
 unfoldable pub convertOf : Sample → ℕ → Outcome Value
-convertOf v to = samplesThen (v .kind ∷ to ∷ []) (v ∷ []) (convert.convertOf (valueFor v) (kindFor to))
+convertOf v to = chain (kindRules v to) (convert.convertOf (valueFor v) (kindFor to))
 
 -- ---- patterns of the float kinds, 8 and 9
 
@@ -52,11 +60,11 @@ notFloat n = not (eqb n 8 || eqb n 9)
 abbrev pub ofFloat : {A : Type 0} → (ℕ → ℕ → ℕ → A) → Sample → A
 ofFloat tell s = cond (eqb (s .kind) 8) (tell 23 8 (s .bits)) (tell 52 11 (s .bits))
 
-abbrev pub floatThen : {A : Type 0} → Sample → Outcome A → Outcome A
-floatThen s next = refuseIf (notFloat (s .kind)) 7 0 (refuseIf (anyWide (s ∷ [])) 4 0 next)
+abbrev pub floatRules : Sample → List Rule
+floatRules s = rule 7 0 (notFloat (s .kind)) ∷ rule 4 0 (anyWide (s ∷ [])) ∷ []
 
 unfoldable pub classifyOf : Sample → Outcome Class
-classifyOf s = floatThen s (gives (ofFloat classOf s))
+classifyOf s = chain (floatRules s) (gives (ofFloat classOf s))
 
 unfoldable pub placeOf : Sample → Outcome ℤ
-placeOf s = floatThen s (gives (ofFloat positionOf s))
+placeOf s = chain (floatRules s) (gives (ofFloat positionOf s))

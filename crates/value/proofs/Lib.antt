@@ -4,5 +4,6 @@ pub mod TwosComplement
 pub mod FloatBits
 pub mod MadeValues
 pub mod Outcomes
+pub mod Rules
 pub mod Forms
 pub mod Units

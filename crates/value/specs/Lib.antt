@@ -1,3 +1,4 @@
 pub mod Kinds
 pub mod Meaning
 pub mod Outcome
+pub mod Rules

@@ -3,11 +3,23 @@ use Prim.Native.Nat.{ℕ, suc}
 use mathlib.Core.Path.{_≡_}
 use mathlib.Core.Bool.{Bool, true, false}
 use mathlib.Core.List.{List, [], _∷_, _++_, map}
-use Rattle.value.specs.Outcome.{Outcome, gives, refuses}
+use Rattle.value.specs.Outcome.{Outcome, gives, refuses, refuseIf}
 
 -- a rule of refusal: its number, its place, and whether it holds
 pub data Rule : Type 0 where
   rule : ℕ → ℕ → Bool → Rule
+
+-- what a call answers by a list of rules: the first that holds refuses, else what follows
+abbrev pub chain : {A : Type 0} → List Rule → Outcome A → Outcome A
+chain [] next = next
+chain (rule n p holds ∷ rest) next = refuseIf holds n p (chain rest next)
+
+-- the numbers, in the list's order
+unfoldable pub numbersOf : List Rule → List ℕ
+numbersOf [] = []
+numbersOf (rule n p holds ∷ rest) = n ∷ numbersOf rest
+
+-- ---- what that means
 
 -- a rule of the list holds, with this number and place, and none before it
 pub data First (n p : ℕ) : List Rule → Type 0 where
