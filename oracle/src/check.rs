@@ -5,7 +5,7 @@ use std::io::{self, Write};
 use std::time::{Instant, SystemTime, UNIX_EPOCH};
 
 use crate::cases::Cases;
-use crate::lines::{self, Judged, LINE_KINDS, MALFORMED};
+use crate::lines::{self, LINE_KINDS, MALFORMED};
 use crate::program;
 
 pub const SHOWN_DIFFERENCES: usize = 20;
@@ -21,7 +21,7 @@ pub fn compare(
     program: &[OsString],
     out: &mut impl Write,
 ) -> io::Result<bool> {
-    let mut tally = Tally::new();
+    let mut tally = Tally::default();
     let well = compare_seed(seed, count, program, &mut tally, out)?;
     tally.report(out)?;
     Ok(well)
@@ -33,7 +33,7 @@ pub fn soak(seconds: u64, program: &[OsString], out: &mut impl Write) -> io::Res
     let start = Instant::now();
     let now = SystemTime::now().duration_since(UNIX_EPOCH);
     let mut seed = now.map_or(0, |since| since.as_secs());
-    let mut tally = Tally::new();
+    let mut tally = Tally::default();
     let mut well = true;
     while well && start.elapsed().as_secs() < seconds {
         writeln!(out, "seed {seed}, {SOAK_COUNT} cases")?;
@@ -63,6 +63,7 @@ fn compare_seed(
     Ok(ended.report(out)? && tally.differ == 0)
 }
 
+#[derive(Default)]
 struct Tally {
     differ: usize,
     missing: usize,
@@ -71,17 +72,8 @@ struct Tally {
 }
 
 impl Tally {
-    fn new() -> Tally {
-        Tally {
-            differ: 0,
-            missing: 0,
-            malformed: 0,
-            per_line_kind: [0; LINE_KINDS.len()],
-        }
-    }
-
     fn judge(&mut self, case: &[u8], got: Option<Vec<u8>>, out: &mut impl Write) -> io::Result<()> {
-        let Judged { line_kind, answer } = lines::judged(case);
+        let (line_kind, answer) = lines::judged(case);
         match line_kind {
             Some(place) => self.per_line_kind[place] += 1,
             None => self.malformed += 1,
@@ -140,7 +132,7 @@ mod tests {
     #[test]
     fn a_tally_counts_and_shows() {
         let mut out = Vec::new();
-        let mut tally = Tally::new();
+        let mut tally = Tally::default();
         let case = b"class f32:00000000";
         tally.judge(case, Some(b"zero".to_vec()), &mut out).unwrap();
         tally

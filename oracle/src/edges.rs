@@ -1,290 +1,202 @@
-//! Edge patterns of each kind.
+//! Edge patterns of each kind, read off the table of kinds.
 
 use crate::random::Random;
-use crate::value::{Kind, Value};
-
-/// Magnitudes; the sign bit is added where they are used.
-pub const F32: [u64; 30] = [
-    0x0000_0000, // zero
-    0x0000_0001, // least subnormal
-    0x0000_0002,
-    0x0040_0000,
-    0x007f_ffff, // greatest subnormal
-    0x0080_0000, // least normal
-    0x0080_0001,
-    0x3f00_0000, // 1/2
-    0x3f7f_ffff,
-    0x3f80_0000, // 1
-    0x3f80_0001,
-    0x3fc0_0000, // 3/2
-    0x4000_0000, // 2
-    0x437f_0000, // 255
-    0x4380_0000, // 256
-    0x477f_ff00, // 65535
-    0x4780_0000, // 65536
-    0x4b7f_ffff, // 2^24 - 1
-    0x4b80_0000, // 2^24
-    0x4f00_0000, // 2^31
-    0x4f80_0000, // 2^32
-    0x5f00_0000, // 2^63
-    0x5f80_0000, // 2^64
-    0x7f7f_ffff, // greatest finite
-    0x7f80_0000, // infinity
-    0x7f80_0001, // least signalling NaN
-    0x7fbf_ffff, // greatest signalling NaN
-    0x7fc0_0000, // least quiet NaN
-    0x7fc0_0001,
-    0x7fff_ffff, // greatest quiet NaN
-];
-
-pub const F64: [u64; 38] = [
-    0x0000_0000_0000_0000, // zero
-    0x0000_0000_0000_0001, // least subnormal
-    0x0000_0000_0000_0002,
-    0x0008_0000_0000_0000,
-    0x000f_ffff_ffff_ffff, // greatest subnormal
-    0x0010_0000_0000_0000, // least normal
-    0x0010_0000_0000_0001,
-    0x3690_0000_0000_0000, // 2^-150
-    0x36a0_0000_0000_0000, // 2^-149, least subnormal of f32
-    0x380f_ffff_c000_0000, // greatest subnormal of f32
-    0x3810_0000_0000_0000, // 2^-126, least normal of f32
-    0x3fe0_0000_0000_0000, // 1/2
-    0x3fef_ffff_ffff_ffff,
-    0x3ff0_0000_0000_0000, // 1
-    0x3ff0_0000_0000_0001,
-    0x3ff8_0000_0000_0000, // 3/2
-    0x4000_0000_0000_0000, // 2
-    0x406f_e000_0000_0000, // 255
-    0x4070_0000_0000_0000, // 256
-    0x40ef_ffe0_0000_0000, // 65535
-    0x40f0_0000_0000_0000, // 65536
-    0x41df_ffff_ffc0_0000, // 2^31 - 1
-    0x41e0_0000_0000_0000, // 2^31
-    0x41ef_ffff_ffe0_0000, // 2^32 - 1
-    0x41f0_0000_0000_0000, // 2^32
-    0x433f_ffff_ffff_ffff, // 2^53 - 1
-    0x4340_0000_0000_0000, // 2^53
-    0x43e0_0000_0000_0000, // 2^63
-    0x43f0_0000_0000_0000, // 2^64
-    0x47ef_ffff_e000_0000, // greatest finite f32
-    0x47f0_0000_0000_0000, // 2^128
-    0x7fef_ffff_ffff_ffff, // greatest finite
-    0x7ff0_0000_0000_0000, // infinity
-    0x7ff0_0000_0000_0001, // least signalling NaN
-    0x7ff7_ffff_ffff_ffff, // greatest signalling NaN
-    0x7ff8_0000_0000_0000, // least quiet NaN
-    0x7ff8_0000_0000_0001,
-    0x7fff_ffff_ffff_ffff, // greatest quiet NaN
-];
-
-/// Rising, so that those that fit a kind are the first ones.
-pub const INTEGERS: [u64; 22] = [
-    0,
-    1,
-    2,
-    0x7f,
-    0x80,
-    0xff,
-    0x100,
-    0x7fff,
-    0x8000,
-    0xffff,
-    0x1_0000,
-    0xff_ffff,
-    0x100_0000,
-    0x7fff_ffff,
-    0x8000_0000,
-    0xffff_ffff,
-    0x1_0000_0000,
-    0x1f_ffff_ffff_ffff,
-    0x20_0000_0000_0000,
-    0x7fff_ffff_ffff_ffff,
-    0x8000_0000_0000_0000,
-    0xffff_ffff_ffff_ffff,
-];
+use crate::value::{Form, Kind, Value};
 
 /// Powers of two at which a kind ends, or begins to lack whole numbers.
-const POWERS: [u32; 10] = [7, 8, 15, 16, 24, 31, 32, 53, 63, 64];
+fn powers() -> Vec<u32> {
+    let power = |kind: &Kind| match kind.form() {
+        Form::Unsigned => kind.width(),
+        Form::Signed => kind.width() - 1,
+        Form::Float { fraction } => fraction + 1,
+    };
+    Kind::ALL.iter().map(power).collect()
+}
 
 /// Whole numbers around these powers and the least ones, of either sign.
 pub fn whole_numbers() -> Vec<i128> {
-    let around = |power| [-1, 0, 1, 2].map(|step| (1i128 << power) + step);
-    let sizes = [1, 2, 3]
-        .into_iter()
-        .chain(POWERS.into_iter().flat_map(around));
-    [0].into_iter()
-        .chain(sizes.flat_map(|size| [size, -size]))
-        .collect()
+    let mut sizes = vec![1, 2, 3];
+    for power in powers() {
+        sizes.extend([-1, 0, 1, 2].map(|step| (1i128 << power) + step));
+    }
+    let signed = sizes.into_iter().flat_map(|size| [size, -size]);
+    [0].into_iter().chain(signed).collect()
 }
 
-/// The edges of a kind, without a sign.
-pub fn edges(kind: Kind) -> &'static [u64] {
-    match kind {
-        Kind::F32 => &F32,
-        Kind::F64 => &F64,
-        _ => &INTEGERS[..INTEGERS.partition_point(|&edge| edge <= kind.mask())],
+/// The pattern of number * 2^power where the kind has it as a normal number.
+pub fn pattern(kind: Kind, number: u64, power: i32) -> Option<u64> {
+    let last = 63 - number.leading_zeros();
+    let exponent = kind.bias() as i32 + power + last as i32;
+    let exponents = 1..(kind.infinity() >> kind.fraction()) as i32;
+    if last > kind.fraction() || !exponents.contains(&exponent) {
+        return None;
     }
+    let fraction = (number ^ 1 << last) << (kind.fraction() - last);
+    Some((exponent as u64) << kind.fraction() | fraction)
 }
 
-/// The bits of plus infinity; float kinds alone have them.
-pub fn infinity(kind: Kind) -> u64 {
-    match kind {
-        Kind::F32 => 0x7f80_0000,
-        _ => 0x7ff0_0000_0000_0000,
-    }
+/// The least and greatest magnitudes of a float kind, and where its subnormals
+/// end: a number and a power of two each.
+pub fn ends(kind: Kind) -> [(u64, i32); 6] {
+    let (unit, one) = (kind.unit(), kind.bias() as i32);
+    let least = 1 - one - kind.fraction() as i32;
+    let greatest = one - kind.fraction() as i32;
+    [
+        (1, least - 1), // half of the least
+        (1, least),
+        (unit - 1, least),
+        (unit, least),
+        (2 * unit - 1, greatest),
+        (1, one + 1), // past the greatest
+    ]
 }
 
-/// The bits of 1; float kinds alone have them.
-pub fn one(kind: Kind) -> u64 {
-    match kind {
-        Kind::F32 => 0x3f80_0000,
-        _ => 0x3ff0_0000_0000_0000,
+/// The edges of a kind without a sign, rising.
+pub fn edges(kind: Kind) -> Vec<u64> {
+    let mut edges = vec![0, 1, 2];
+    let powers = powers().into_iter();
+    let whole = powers.flat_map(|power| [(u64::MAX >> (64 - power), 0), (1, power)]);
+    if kind.is_float() {
+        edges.extend(float_edges(kind));
+        edges.extend(nans(kind));
+        let whole = whole.map(|(number, power)| (number, power as i32));
+        let ends = Kind::floats().into_iter().flat_map(ends);
+        edges.extend(
+            whole
+                .chain(ends)
+                .filter_map(|(number, power)| pattern(kind, number, power)),
+        );
+    } else {
+        edges.extend(whole.filter_map(|(number, power)| number.checked_shl(power)));
     }
+    edges.retain(|&edge| edge <= kind.mask());
+    edges.sort_unstable();
+    edges.dedup();
+    edges
+}
+
+fn float_edges(kind: Kind) -> [u64; 12] {
+    let (unit, one, infinity) = (kind.unit(), kind.one(), kind.infinity());
+    [
+        unit / 2,
+        unit - 1, // greatest subnormal
+        unit,     // least normal
+        unit + 1,
+        one - unit, // 1/2
+        one - 1,
+        one,
+        one + 1,
+        one + unit / 2, // 3/2
+        one + unit,     // 2
+        infinity - 1,   // greatest finite
+        infinity,
+    ]
+}
+
+/// The ends of the signalling and of the quiet NaN.
+pub fn nans(kind: Kind) -> [u64; 5] {
+    let infinity = kind.infinity();
+    let quiet = infinity + kind.unit() / 2;
+    [infinity + 1, quiet - 1, quiet, quiet + 1, kind.top() - 1]
+}
+
+/// The edges of a kind with either sign, and their neighbours by bits.
+pub fn all_edges(kind: Kind) -> Vec<Value> {
+    let mut values = Vec::new();
+    for edge in edges(kind) {
+        for sign in [0, kind.top()] {
+            let edge = Value::new(kind, sign | edge);
+            values.extend([0, 1, -1].map(|steps| edge.stepped(steps)));
+        }
+    }
+    values.sort_unstable_by_key(|value| value.bits);
+    values.dedup();
+    values
 }
 
 /// A few numbers, in order: the infinities, the ones, the least magnitudes and
 /// the zeros. Of an integer kind with a sign: either end and around zero.
-pub fn few(kind: Kind) -> [u64; 8] {
+pub fn few(kind: Kind) -> [Value; 8] {
     let (top, mask) = (kind.top(), kind.mask());
-    if !kind.is_float() {
-        return [top, top + 1, mask - 1, mask, 0, 1, top - 2, top - 1];
-    }
-    let (one, infinity) = (one(kind), infinity(kind));
-    [top | infinity, top | one, top | 1, top, 0, 1, one, infinity]
-}
-
-pub fn is_nan(value: Value) -> bool {
-    let Value { kind, bits } = value;
-    kind.is_float() && bits & !kind.top() > infinity(kind)
+    let bits = match kind.is_float() {
+        false => [top, top + 1, mask - 1, mask, 0, 1, top - 2, top - 1],
+        true => {
+            let (one, infinity) = (kind.one(), kind.infinity());
+            [top | infinity, top | one, top | 1, top, 0, 1, one, infinity]
+        }
+    };
+    bits.map(|bits| Value::new(kind, bits))
 }
 
 /// A NaN of either sign, half of the time an edge.
 pub fn nan(random: &mut Random, kind: Kind) -> Value {
     let sign = random.pick(&[0, kind.top()]);
-    let value = if random.one_in(2) {
-        let edges = edges(kind);
-        let first = edges.partition_point(|&edge| edge <= infinity(kind));
-        Value::new(kind, sign | random.pick(&edges[first..]))
-    } else {
-        Value::new(kind, sign | infinity(kind) | random.next())
+    let infinity = kind.infinity();
+    let bits = match random.one_in(2) {
+        true => random.pick(&nans(kind)),
+        false => infinity | random.next() & (kind.unit() - 1),
     };
-    if is_nan(value) {
-        value
-    } else {
-        Value::new(kind, value.bits | 1)
-    }
+    Value::new(kind, sign | bits.max(infinity + 1))
 }
 
-/// The edges that matter most, drawn more often than the others.
-fn main_edges(kind: Kind) -> [u64; 3] {
-    match kind {
-        Kind::F32 => [0, 0x7f80_0000, 0x7fc0_0000],
-        Kind::F64 => [0, 0x7ff0_0000_0000_0000, 0x7ff8_0000_0000_0000],
-        _ => [0, kind.top(), kind.mask()],
-    }
-}
-
-/// An edge of the kind with a random sign, or its neighbour by bits.
+/// An edge of the kind with a random sign, or its neighbour by bits. Those that
+/// matter most are drawn more often than the others.
 pub fn near_edge(random: &mut Random, kind: Kind) -> Value {
-    let edge = if random.one_in(4) {
-        random.pick(&main_edges(kind))
-    } else {
-        random.pick(edges(kind))
+    let edge = match (random.one_in(4), kind.form()) {
+        (false, _) => random.pick(&edges(kind)),
+        (true, Form::Float { .. }) => {
+            random.pick(&[0, kind.infinity(), kind.infinity() + kind.unit() / 2])
+        }
+        (true, _) => random.pick(&[0, kind.top(), kind.mask()]),
     };
     let signed = match (random.one_in(2), kind.is_float()) {
         (false, _) => edge,
         (true, true) => edge | kind.top(),
         (true, false) => edge.wrapping_neg(),
     };
-    let value = Value::new(kind, signed);
-    if random.one_in(3) {
-        neighbour(random, value)
-    } else {
-        value
-    }
-}
-
-/// One more or one less by bits, around the end of the width.
-pub fn neighbour(random: &mut Random, value: Value) -> Value {
-    let step = random.pick(&[1, u64::MAX]);
-    Value::new(value.kind, value.bits.wrapping_add(step))
+    let steps = random.pick(&[0, 0, 0, 0, 1, -1]);
+    Value::new(kind, signed).stepped(steps)
 }
 
 #[cfg(test)]
 mod tests {
     use super::*;
 
+    /// Those that have a name, by Rust's own bits.
     #[test]
-    fn f32_edges_are_what_they_are_called() {
-        let numbers = [
-            0.5, 1.0, 1.5, 2.0, 255.0, 256.0, 65535.0, 65536.0, 16777215.0, 16777216.0,
-        ];
-        let powers = [31, 32, 63, 64].map(|power| 2f32.powi(power));
-        let ends = [
-            0.0,
-            f32::from_bits(1),
-            f32::MIN_POSITIVE,
-            f32::MAX,
-            f32::INFINITY,
-            f32::NAN,
-        ];
-        for number in numbers.into_iter().chain(powers).chain(ends) {
-            assert!(F32.contains(&u64::from(number.to_bits())), "{number}");
+    fn edges_of_floats() {
+        let whole = [0.0, 0.5, 1.0, 1.5, 2.0, 255.0, 256.0, 65535.0, 65536.0];
+        let powers = [24, 31, 32, 63, 64].map(|power| 2f32.powi(power));
+        let ends = [f32::from_bits(1), f32::MIN_POSITIVE, f32::MAX];
+        for number in whole.into_iter().chain(powers).chain(ends) {
+            let (narrow, wide) = (number.to_bits(), f64::from(number).to_bits());
+            assert!(edges(Kind::F32).contains(&narrow.into()), "{number}");
+            assert!(edges(Kind::F64).contains(&wide), "{number}");
+        }
+        let powers = [-150, 53, 128].map(|power| 2f64.powi(power));
+        for number in [f64::MIN_POSITIVE, f64::MAX].into_iter().chain(powers) {
+            assert!(edges(Kind::F64).contains(&number.to_bits()), "{number}");
+        }
+        for nan in [0x7f80_0001, 0x7fbf_ffff, 0x7fc0_0000, 0x7fff_ffff] {
+            assert!(edges(Kind::F32).contains(&nan), "{nan:x}");
         }
     }
 
     #[test]
-    fn f64_edges_are_what_they_are_called() {
-        let numbers = [0.5, 1.0, 1.5, 2.0, 255.0, 256.0, 65535.0, 65536.0];
-        let powers = [-150, -149, -126, 31, 32, 53, 63, 64, 128].map(|power| 2f64.powi(power));
-        let below = [31, 32, 53].map(|power| 2f64.powi(power) - 1.0);
-        let ends = [0.0, f64::MIN_POSITIVE, f64::MAX, f64::INFINITY, f64::NAN];
-        let f32_ends = [f32::from_bits(0x007f_ffff), f32::MAX].map(f64::from);
-        let all = numbers
-            .into_iter()
-            .chain(powers)
-            .chain(below)
-            .chain(ends)
-            .chain(f32_ends);
-        for number in all {
-            assert!(F64.contains(&number.to_bits()), "{number}");
-        }
+    fn edges_of_integers() {
+        let ends = [0, 1, 0x7f, 0x80, 0xff];
+        assert!(ends.iter().all(|end| edges(Kind::I8).contains(end)));
+        assert_eq!(edges(Kind::I8).last(), Some(&0xff));
+        assert!(edges(Kind::U64).contains(&(1 << 53)));
+        assert_eq!(edges(Kind::U64).last(), Some(&u64::MAX));
     }
 
     #[test]
     fn whole_numbers_pass_the_ends_of_kinds() {
         let numbers = whole_numbers();
-        for end in [
-            i128::from(u8::MAX),
-            u16::MAX.into(),
-            u32::MAX.into(),
-            u64::MAX.into(),
-            i8::MAX.into(),
-            i16::MAX.into(),
-            i32::MAX.into(),
-            i64::MAX.into(),
-        ] {
+        for end in [255, 127, u64::MAX.into(), i128::from(i64::MAX)] {
             assert!(numbers.contains(&end) && numbers.contains(&(end + 1)));
             assert!(numbers.contains(&(-1 - end)) && numbers.contains(&(-2 - end)));
         }
-    }
-
-    #[test]
-    fn infinities_and_ones() {
-        assert_eq!(infinity(Kind::F32), u64::from(f32::INFINITY.to_bits()));
-        assert_eq!(infinity(Kind::F64), f64::INFINITY.to_bits());
-        assert_eq!(one(Kind::F32), u64::from(1f32.to_bits()));
-        assert_eq!(one(Kind::F64), 1f64.to_bits());
-    }
-
-    #[test]
-    fn edges_rise_and_fit() {
-        for kind in Kind::ALL {
-            assert!(edges(kind).windows(2).all(|pair| pair[0] < pair[1]));
-            assert!(edges(kind).iter().all(|&edge| edge <= kind.mask()));
-        }
-        assert_eq!(edges(Kind::I8).last(), Some(&0xff));
-        assert_eq!(edges(Kind::U64).last(), Some(&u64::MAX));
     }
 }

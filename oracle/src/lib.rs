@@ -1,22 +1,23 @@
 //! What the oracle's programs are made of: cases, judges by Rust's own bodies,
-//! and the comparison of answers.
+//! rules in whole numbers, and the comparison of answers.
 
-pub mod bytes;
+pub mod answer;
 pub mod cases;
 pub mod check;
 pub mod edges;
 pub mod fixed;
+pub mod grammar;
 pub mod judge;
 pub mod lines;
-pub mod list;
 pub mod malformed;
-pub mod odd;
+#[cfg(test)]
+mod mistakes;
+pub mod operands;
 pub mod order;
 pub mod program;
 pub mod random;
-pub mod record;
-#[cfg(test)]
-mod rules;
+pub mod rules;
 #[cfg(test)]
 mod second_opinion;
+pub mod text;
 pub mod value;

@@ -1,78 +1,94 @@
-//! The line kinds, each with its maker and its judge. A new line kind is one
-//! more entry here.
+//! The line kinds, and the answer to a line.
 
 use crate::random::Random;
-use crate::{cases, judge};
+use crate::{grammar, judge, operands, rules};
 
 /// Random operands, parted by one space.
 type Make = fn(&mut Random) -> String;
 /// The answer to operands; nothing when they aren't of the grammar.
-type Judge = fn(&[&[u8]]) -> Option<String>;
+type Reply = fn(&[&[u8]]) -> Option<String>;
 
 pub struct LineKind {
     pub word: &'static str,
     pub make: Make,
-    pub judge: Judge,
+    /// By Rust's own bodies.
+    pub judge: Reply,
+    /// In whole numbers, the same by another way.
+    pub rule: Reply,
+    /// The numbers that it may be refused with, in the order of docs/RULES.md.
+    pub refusals: &'static [u32],
 }
 
-pub const LINE_KINDS: [LineKind; 22] = [
-    line_kind("class", cases::one_float, judge::class),
-    line_kind("compare", cases::pair, judge::compare),
-    line_kind("total", cases::pair, judge::total),
-    line_kind("eq", cases::pair, judge::eq),
-    line_kind("ne", cases::pair, judge::ne),
-    line_kind("lt", cases::pair, judge::lt),
-    line_kind("le", cases::pair, judge::le),
-    line_kind("gt", cases::pair, judge::gt),
-    line_kind("ge", cases::pair, judge::ge),
-    line_kind("min", cases::choice::pair, judge::choice::min),
-    line_kind("max", cases::choice::pair, judge::choice::max),
-    line_kind("clamp", cases::choice::clamp, judge::choice::clamp),
-    line_kind("rowclamp", cases::row::rowclamp, judge::choice::rowclamp),
-    line_kind("convert", cases::convert::convert, judge::convert::convert),
-    line_kind("row", cases::row::row, judge::row::row),
-    line_kind("rcompare", cases::record::pair, judge::record::rcompare),
-    line_kind("rmin", cases::record::pair, judge::record::rmin),
-    line_kind("rmax", cases::record::pair, judge::record::rmax),
-    line_kind("write", cases::key::write, judge::key::write),
-    line_kind("read", cases::key::read, judge::key::read),
-    line_kind("prefixmin", cases::prefix::rows, judge::prefix::prefixmin),
-    line_kind("prefixmax", cases::prefix::rows, judge::prefix::prefixmax),
-];
+macro_rules! line_kinds {
+    ($(
+        $word:literal $makers:ident::$make:ident $read:ident $calls:ident::$call:ident
+        $refusals:tt;
+    )+) => {
+        pub const LINE_KINDS: &[LineKind] = &[$(LineKind {
+            word: $word,
+            make: operands::$makers::$make,
+            judge: |operands| grammar::$read(operands, judge::$calls::$call),
+            rule: |operands| grammar::$read(operands, rules::$calls::$call),
+            refusals: &$refusals,
+        }),+];
+    };
+}
 
-const fn line_kind(word: &'static str, make: Make, judge: Judge) -> LineKind {
-    LineKind { word, make, judge }
+// A line kind is added here: its word, what makes its operands (operands/), what
+// reads them (grammar.rs), the call that answers, in judge/ and in rules/, and
+// the numbers of its refusals.
+line_kinds! {
+    "class" value::float float order::class [];
+    "compare" value::pair pair order::compare [7];
+    "total" value::pair pair order::total [7];
+    "eq" value::pair pair order::eq [7];
+    "ne" value::pair pair order::ne [7];
+    "lt" value::pair pair order::lt [7];
+    "le" value::pair pair order::le [7];
+    "gt" value::pair pair order::gt [7];
+    "ge" value::pair pair order::ge [7];
+    "min" choice::pair pair choice::min [7, 8];
+    "max" choice::pair pair choice::max [7, 8];
+    "clamp" choice::clamp three choice::clamp [7, 6, 8];
+    "rowclamp" row::rowclamp bounds_row choice::rowclamp [6, 8];
+    "convert" convert::convert value_to convert::convert [1, 2, 3, 4, 5];
+    "row" row::row row_to convert::row [9, 1, 2, 3, 4];
+    "rcompare" record::pair records record::compare [11, 7];
+    "rmin" record::pair records record::min [11, 7, 8];
+    "rmax" record::pair records record::max [11, 7, 8];
+    "write" key::write record_room key::write [11, 10, 1];
+    "read" key::read shape_key key::read [11, 9, 12];
+    "prefixmin" prefix::rows byte_rows prefix::min [];
+    "prefixmax" prefix::rows byte_rows prefix::max [];
 }
 
 pub const MALFORMED: &str = "malformed";
 
-pub struct Judged {
-    /// Place in `LINE_KINDS`; nothing for a malformed line.
-    pub line_kind: Option<usize>,
-    pub answer: String,
+/// The place of a line's word in `LINE_KINDS`, and its operands.
+pub fn split(line: &[u8]) -> Option<(usize, Vec<&[u8]>)> {
+    let mut fields = line.split(|&byte| byte == b' ');
+    let word = fields.next()?;
+    let mut words = LINE_KINDS.iter().map(|line_kind| line_kind.word.as_bytes());
+    let place = words.position(|known| known == word)?;
+    Some((place, fields.collect()))
 }
 
-/// Judges a line without its newline.
-pub fn judged(line: &[u8]) -> Judged {
-    well_formed(line).unwrap_or_else(|| Judged {
-        line_kind: None,
-        answer: MALFORMED.to_string(),
-    })
+/// The answer to a line without its newline, and the place of its line kind in
+/// `LINE_KINDS`; none for a malformed line.
+pub fn judged(line: &[u8]) -> (Option<usize>, String) {
+    let answer = split(line).and_then(|(place, operands)| {
+        let answer = (LINE_KINDS[place].judge)(&operands)?;
+        Some((Some(place), answer))
+    });
+    answer.unwrap_or_else(|| (None, MALFORMED.to_string()))
 }
 
 pub fn answer(line: &[u8]) -> String {
-    judged(line).answer
+    judged(line).1
 }
 
-fn well_formed(line: &[u8]) -> Option<Judged> {
-    let fields: Vec<&[u8]> = line.split(|&byte| byte == b' ').collect();
-    let (word, operands) = fields.split_first()?;
-    let place = LINE_KINDS
-        .iter()
-        .position(|line_kind| line_kind.word.as_bytes() == *word)?;
-    let answer = (LINE_KINDS[place].judge)(operands)?;
-    Some(Judged {
-        line_kind: Some(place),
-        answer,
-    })
+/// A random line of any kind.
+pub fn random_line(random: &mut Random) -> String {
+    let line_kind = &LINE_KINDS[random.below(LINE_KINDS.len())];
+    format!("{} {}", line_kind.word, (line_kind.make)(random))
 }

@@ -18,22 +18,14 @@ usage: oracle cases SEED COUNT            case lines made from a seed
 PROGRAM may have arguments behind it.
 ";
 
-enum Command<'a> {
-    Cases(u64, usize),
-    Fixed,
-    Answers,
-    Compare(u64, usize, &'a [OsString]),
-    Soak(u64, &'a [OsString]),
-    Order(u64, usize, &'a [OsString]),
-}
-
 fn main() -> ExitCode {
     let arguments: Vec<OsString> = std::env::args_os().skip(1).collect();
-    let Some(command) = command(&arguments) else {
+    let mut out = BufWriter::new(io::stdout().lock());
+    let Some(well) = run(&arguments, &mut out) else {
         eprint!("{USAGE}");
         return ExitCode::from(2);
     };
-    match run(command) {
+    match well.and_then(|well| out.flush().map(|()| well)) {
         Ok(true) => ExitCode::SUCCESS,
         Ok(false) => ExitCode::FAILURE,
         // The reader of our output has gone, as `head` does: no need to say so.
@@ -45,54 +37,40 @@ fn main() -> ExitCode {
     }
 }
 
-fn command(arguments: &[OsString]) -> Option<Command<'_>> {
+/// Answers whether all is well; nothing for a command line that there isn't.
+fn run(arguments: &[OsString], out: &mut impl Write) -> Option<io::Result<bool>> {
     let (name, rest) = arguments.split_first()?;
-    match (name.to_str()?, rest) {
-        ("cases", [seed, count]) => Some(Command::Cases(number(seed)?, number(count)?)),
-        ("fixed", []) => Some(Command::Fixed),
-        ("answers", []) => Some(Command::Answers),
+    Some(match (name.to_str()?, rest) {
+        ("cases", [seed, count]) => {
+            let cases = Cases::new(number(seed)?).take(number(count)?);
+            program::write_lines(cases, out).map(|()| true)
+        }
+        ("fixed", []) => {
+            let lines = fixed::lines().into_iter().map(String::into_bytes);
+            program::write_lines(lines, out).map(|()| true)
+        }
+        ("answers", []) => answers(out).map(|()| true),
         ("compare", [seed, count, program @ ..]) if !program.is_empty() => {
-            Some(Command::Compare(number(seed)?, number(count)?, program))
+            check::compare(number(seed)?, number(count)?, program, out)
         }
         ("soak", [seconds, program @ ..]) if !program.is_empty() => {
-            Some(Command::Soak(number(seconds)?, program))
+            check::soak(number(seconds)?, program, out)
         }
         ("order", [seed, count, program @ ..]) if !program.is_empty() => {
-            Some(Command::Order(number(seed)?, number(count)?, program))
+            order::order(number(seed)?, number(count)?, program, out)
         }
-        _ => None,
+        _ => return None,
+    })
+}
+
+fn answers(out: &mut impl Write) -> io::Result<()> {
+    let mut input = io::stdin().lock();
+    while let Some(line) = program::read_line(&mut input)? {
+        writeln!(out, "{}", lines::answer(&line))?;
     }
+    Ok(())
 }
 
 fn number<T: std::str::FromStr>(text: &OsStr) -> Option<T> {
     text.to_str()?.parse().ok()
-}
-
-/// Answers whether all is well.
-fn run(command: Command) -> io::Result<bool> {
-    let mut out = BufWriter::new(io::stdout().lock());
-    let well = match command {
-        Command::Cases(seed, count) => {
-            program::write_lines(Cases::new(seed).take(count), &mut out)?;
-            true
-        }
-        Command::Fixed => {
-            for line in fixed::lines() {
-                writeln!(out, "{line}")?;
-            }
-            true
-        }
-        Command::Answers => {
-            let mut input = io::stdin().lock();
-            while let Some(line) = program::read_line(&mut input)? {
-                writeln!(out, "{}", lines::answer(&line))?;
-            }
-            true
-        }
-        Command::Compare(seed, count, program) => check::compare(seed, count, program, &mut out)?,
-        Command::Soak(seconds, program) => check::soak(seconds, program, &mut out)?,
-        Command::Order(seed, count, program) => order::order(seed, count, program, &mut out)?,
-    };
-    out.flush()?;
-    Ok(well)
 }

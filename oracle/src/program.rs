@@ -62,7 +62,12 @@ fn start(words: &[OsString]) -> io::Result<Child> {
         .stdin(Stdio::piped())
         .stdout(Stdio::piped())
         .spawn()
-        .map_err(|error| io::Error::new(error.kind(), format!("{}: {error}", program.display())))
+        .map_err(|error| {
+            io::Error::new(
+                error.kind(),
+                format!("{}: {error}", program.to_string_lossy()),
+            )
+        })
 }
 
 /// A program that stops reading shows by its missing answers.

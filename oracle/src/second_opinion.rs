@@ -1,98 +1,76 @@
 //! Rust's bodies, by way of the judges, against the rules in whole numbers.
 
-mod choice;
-mod convert;
-mod key;
-mod order;
-mod prefix;
-mod record;
-mod row;
+mod lists;
 
-use std::cmp::Ordering;
-
-use crate::cases;
-use crate::edges;
-use crate::lines;
+use crate::edges::{self, all_edges};
+use crate::fixed;
+use crate::judge::convert::nearest;
+use crate::judge::native::Number;
+use crate::lines::{self, LINE_KINDS};
 use crate::random::Random;
-use crate::rules::{self, Refused};
 use crate::value::{Kind, Value};
 
-const LESS: Option<Ordering> = Some(Ordering::Less);
-const EQUAL: Option<Ordering> = Some(Ordering::Equal);
-const GREATER: Option<Ordering> = Some(Ordering::Greater);
-
-/// Each test, and the orders on which it says yes.
-const TESTS: [(&str, &[Option<Ordering>]); 6] = [
-    ("eq", &[EQUAL]),
-    ("ne", &[LESS, GREATER, None]),
-    ("lt", &[LESS]),
-    ("le", &[LESS, EQUAL]),
-    ("gt", &[GREATER]),
-    ("ge", &[GREATER, EQUAL]),
+/// Words of lines with two values.
+const PAIR_WORDS: [&str; 10] = [
+    "compare", "total", "eq", "ne", "lt", "le", "gt", "ge", "min", "max",
 ];
 
-fn name(order: Option<Ordering>) -> &'static str {
-    match order {
-        LESS => "Less",
-        EQUAL => "Equal",
-        GREATER => "Greater",
-        None => "Unordered",
-    }
-}
-
-fn expect(line: &str, wanted: &str) {
-    assert_eq!(lines::answer(line.as_bytes()), wanted, "{line}");
-}
-
-fn refused((number, place): Refused) -> String {
-    format!("refused {number} {place}")
-}
-
-fn text(answer: Result<Value, Refused>) -> String {
-    answer.map_or_else(refused, |value| value.to_string())
-}
-
-fn check_class(value: Value) {
-    expect(&format!("class {value}"), rules::class(value));
+/// The judge and the rule give the same answer.
+fn check(line: &str) {
+    let (place, operands) = lines::split(line.as_bytes()).expect("a line kind");
+    let wanted = (LINE_KINDS[place].rule)(&operands);
+    assert!(wanted.is_some(), "{line}");
+    assert_eq!((LINE_KINDS[place].judge)(&operands), wanted, "{line}");
 }
 
 fn check_pair(a: Value, b: Value) {
-    let order = rules::compare(a, b);
-    expect(&format!("compare {a} {b}"), name(order));
-    expect(&format!("total {a} {b}"), name(Some(rules::total(a, b))));
-    for (word, yes) in TESTS {
-        let wanted = if yes.contains(&order) { "yes" } else { "no" };
-        expect(&format!("{word} {a} {b}"), wanted);
+    for word in PAIR_WORDS {
+        check(&format!("{word} {a} {b}"));
     }
 }
 
-/// The edges of a kind with either sign, and their neighbours by bits.
-fn all_edges(kind: Kind) -> Vec<Value> {
-    let mut values = Vec::new();
-    for &edge in edges::edges(kind) {
-        for sign in [0, kind.top()] {
-            for step in [0, 1, u64::MAX] {
-                values.push(Value::new(kind, (sign | edge).wrapping_add(step)));
-            }
-        }
+fn check_conversions(value: Value) {
+    for to in Kind::ALL {
+        check(&format!("convert {value} {}", to.name()));
     }
-    values
 }
 
 #[test]
-fn classes() {
+fn random_lines() {
     let mut random = Random::new(21);
-    for kind in Kind::FLOATS {
-        all_edges(kind).into_iter().for_each(check_class);
-        for _ in 0..50_000 {
-            check_class(cases::value(&mut random, kind));
+    for line_kind in LINE_KINDS {
+        for _ in 0..20_000 {
+            let operands = (line_kind.make)(&mut random);
+            check(&format!("{} {operands}", line_kind.word));
+        }
+    }
+}
+
+/// The answers that are written beside the lines of the fixed list.
+#[test]
+fn written_answers() {
+    for (line, wanted) in fixed::written() {
+        assert_eq!(lines::answer(line.as_bytes()), wanted, "{line}");
+    }
+    for line in fixed::lines() {
+        if lines::answer(line.as_bytes()) != lines::MALFORMED {
+            check(&line);
         }
     }
 }
 
 #[test]
-fn all_pairs_of_edges() {
-    for kind in Kind::ALL {
+fn classes_of_edges() {
+    for kind in Kind::floats() {
+        for value in all_edges(kind) {
+            check(&format!("class {value}"));
+        }
+    }
+}
+
+#[test]
+fn pairs_of_edges() {
+    for &kind in Kind::ALL {
         let values = all_edges(kind);
         for &a in &values {
             for &b in &values {
@@ -102,25 +80,9 @@ fn all_pairs_of_edges() {
     }
 }
 
-#[test]
-fn random_pairs() {
-    let mut random = Random::new(22);
-    for kind in Kind::ALL {
-        for _ in 0..20_000 {
-            let a = cases::value(&mut random, kind);
-            let b = cases::partner(&mut random, a);
-            if a.kind == b.kind {
-                check_pair(a, b);
-            } else {
-                expect(&format!("total {a} {b}"), "refused 7 0");
-            }
-        }
-    }
-}
-
 /// Every pattern of the two 8-bit kinds against every other.
 #[test]
-fn all_pairs_of_bytes() {
+fn pairs_of_bytes() {
     for kind in [Kind::U8, Kind::I8] {
         for bits in 0..0x1_0000 {
             check_pair(Value::new(kind, bits >> 8), Value::new(kind, bits));
@@ -128,63 +90,97 @@ fn all_pairs_of_bytes() {
     }
 }
 
-/// Where the scaled number is narrow, it is the value times 2^149.
+/// Every edge within all pairs of a few numbers and two NaN.
 #[test]
-fn scaled_numbers_are_the_values() {
-    let mut random = Random::new(23);
-    let mut narrow = 0;
-    for _ in 0..100_000 {
-        let value = cases::value(&mut random, Kind::F32);
-        let float = f32::from_bits(value.bits as u32);
-        if !float.is_finite() {
-            continue;
+fn clamps_of_edges() {
+    for &kind in Kind::ALL {
+        let mut few = edges::few(kind).to_vec();
+        if kind.is_float() {
+            few.extend([kind.infinity() + 1, kind.mask()].map(|bits| Value::new(kind, bits)));
         }
-        if let Some(scaled) = rules::narrow(rules::scaled(value)) {
-            narrow += 1;
-            // At most 24 bits are significant, so neither step rounds.
-            assert_eq!(scaled as f64 * 2f64.powi(-149), f64::from(float.abs()));
+        for value in all_edges(kind) {
+            for lower in &few {
+                for upper in &few {
+                    check(&format!("clamp {value} {lower} {upper}"));
+                }
+            }
         }
     }
-    assert!(narrow > 10_000);
+}
+
+/// Zeros and NaN of all kinds in all places, so that kinds differ too.
+#[test]
+fn kinds_that_differ() {
+    let few = |&kind: &Kind| [0, kind.top(), kind.mask()].map(|bits| Value::new(kind, bits));
+    let values: Vec<Value> = Kind::ALL.iter().flat_map(few).collect();
+    for &value in &values {
+        for &lower in &values {
+            check_pair(value, lower);
+            for upper in &values {
+                check(&format!("clamp {value} {lower} {upper}"));
+            }
+        }
+    }
 }
 
 #[test]
-fn positions_reach_both_ends() {
-    let position = |kind, bits| rules::position(Value::new(kind, bits));
-    assert_eq!(position(Kind::F32, 0x7fff_ffff), i128::from(i32::MAX));
-    assert_eq!(position(Kind::F32, 0xffff_ffff), i128::from(i32::MIN));
-    assert_eq!(position(Kind::F64, u64::MAX >> 1), i128::from(i64::MAX));
-    assert_eq!(position(Kind::F64, u64::MAX), i128::from(i64::MIN));
+fn conversions_of_edges_and_narrow_kinds() {
+    for &kind in Kind::ALL {
+        all_edges(kind).into_iter().for_each(check_conversions);
+        if kind.width() <= 16 {
+            let all = (0..=kind.mask()).map(|bits| Value::new(kind, bits));
+            all.for_each(check_conversions);
+        }
+    }
 }
 
+/// Around the ends of every kind's range, as every kind: whole numbers, halves,
+/// quarters and eighths.
 #[test]
-fn marked_cases() {
-    expect("compare f32:00000000 f32:80000000", "Equal");
-    expect("total f32:00000000 f32:80000000", "Greater");
-    expect("compare f32:7fc00000 f32:7fc00000", "Unordered");
-    expect("total f32:7fc00000 f32:7fc00000", "Equal");
-    expect("class f32:7f7fffff", "normal");
-    expect("class f32:7f800000", "infinite");
-    expect("class f32:7f800001", "nan");
-    expect("class f32:007fffff", "subnormal");
-    expect("class f32:00800000", "normal");
-    let scaled = |bits| rules::narrow(rules::scaled(Value::new(Kind::F32, bits)));
-    assert_eq!(scaled(0x007f_ffff), Some(8388607));
-    assert_eq!(scaled(0x0080_0000), Some(8388608));
+fn conversions_around_whole_numbers() {
+    for number in edges::whole_numbers() {
+        for &kind in Kind::ALL {
+            let value = nearest(Number::Integer(number), kind);
+            for steps in [-1, 0, 1] {
+                check_conversions(value.stepped(steps));
+            }
+        }
+        for kind in Kind::floats() {
+            for fraction in [0.5, 0.25, 0.125, -0.5, -0.25, -0.125] {
+                let number = Number::Float(number as f64 + fraction);
+                check_conversions(nearest(number, kind));
+            }
+        }
+    }
 }
 
+/// Every power of two of a float kind, alone and with one digit more: another
+/// kind has room for it or lacks it.
 #[test]
-fn marked_cases_in_f64() {
-    expect("compare f64:0000000000000000 f64:8000000000000000", "Equal");
-    expect("total f64:0000000000000000 f64:8000000000000000", "Greater");
-    expect(
-        "compare f64:7ff8000000000000 f64:7ff8000000000000",
-        "Unordered",
-    );
-    expect("total f64:7ff8000000000000 f64:7ff8000000000000", "Equal");
-    expect("class f64:7fefffffffffffff", "normal");
-    expect("class f64:7ff0000000000000", "infinite");
-    expect("class f64:7ff0000000000001", "nan");
-    expect("class f64:000fffffffffffff", "subnormal");
-    expect("class f64:0010000000000000", "normal");
+fn conversions_of_powers_of_two() {
+    for kind in Kind::floats() {
+        let digits = (0..kind.fraction()).map(|place| 1 << place);
+        for digit in digits.chain([0]) {
+            for power in (0..kind.infinity()).step_by(kind.unit() as usize) {
+                for sign in [0, kind.top()] {
+                    check_conversions(Value::new(kind, sign | power | digit));
+                }
+            }
+        }
+    }
+}
+
+/// Two digits of an integer, as far apart as they may be.
+#[test]
+fn conversions_of_integers() {
+    for kind in Kind::integers() {
+        for high in 0..kind.width() {
+            for low in 0..=high {
+                let bits: u64 = 1 << high | 1 << low;
+                for bits in [bits, bits - 1, bits.wrapping_neg()] {
+                    check_conversions(Value::new(kind, bits));
+                }
+            }
+        }
+    }
 }

@@ -1,77 +1,85 @@
-//! A value as its kind and its bits, and the text `KIND:HEX` for it.
+//! The kinds, and a value as its kind and its bits.
 
 use std::fmt;
 
-use crate::list;
+use crate::text;
 
 #[derive(Clone, Copy, PartialEq, Eq, Debug)]
-pub enum Kind {
-    U8,
-    U16,
-    U32,
-    U64,
-    I8,
-    I16,
-    I32,
-    I64,
-    F32,
-    F64,
+pub enum Form {
+    Unsigned,
+    Signed,
+    /// So many fraction bits; a sign bit and the exponent take the rest.
+    Float {
+        fraction: u32,
+    },
+}
+
+macro_rules! kinds {
+    ($($kind:ident $name:literal $width:literal $form:expr;)+) => {
+        #[derive(Clone, Copy, PartialEq, Eq, Debug)]
+        pub enum Kind {
+            $($kind),+
+        }
+
+        impl Kind {
+            pub const ALL: &'static [Kind] = &[$(Kind::$kind),+];
+
+            /// Name, width in bits and form.
+            const fn entry(self) -> (&'static str, u32, Form) {
+                match self {
+                    $(Kind::$kind => ($name, $width, $form)),+
+                }
+            }
+        }
+    };
+}
+
+// A kind is added here, and where judge/native.rs names Rust's type for it. Its
+// place in this table is its number at the C boundary.
+kinds! {
+    U8 "u8" 8 Form::Unsigned;
+    U16 "u16" 16 Form::Unsigned;
+    U32 "u32" 32 Form::Unsigned;
+    U64 "u64" 64 Form::Unsigned;
+    I8 "i8" 8 Form::Signed;
+    I16 "i16" 16 Form::Signed;
+    I32 "i32" 32 Form::Signed;
+    I64 "i64" 64 Form::Signed;
+    F32 "f32" 32 Form::Float { fraction: 23 };
+    F64 "f64" 64 Form::Float { fraction: 52 };
 }
 
 impl Kind {
-    pub const ALL: [Kind; 10] = [
-        Kind::U8,
-        Kind::U16,
-        Kind::U32,
-        Kind::U64,
-        Kind::I8,
-        Kind::I16,
-        Kind::I32,
-        Kind::I64,
-        Kind::F32,
-        Kind::F64,
-    ];
-    pub const INTEGERS: [Kind; 8] = [
-        Kind::U8,
-        Kind::U16,
-        Kind::U32,
-        Kind::U64,
-        Kind::I8,
-        Kind::I16,
-        Kind::I32,
-        Kind::I64,
-    ];
-    pub const FLOATS: [Kind; 2] = [Kind::F32, Kind::F64];
+    pub fn floats() -> Vec<Kind> {
+        let all = Kind::ALL.iter().copied();
+        all.filter(|kind| kind.is_float()).collect()
+    }
 
-    pub fn name(self) -> &'static str {
-        match self {
-            Kind::U8 => "u8",
-            Kind::U16 => "u16",
-            Kind::U32 => "u32",
-            Kind::U64 => "u64",
-            Kind::I8 => "i8",
-            Kind::I16 => "i16",
-            Kind::I32 => "i32",
-            Kind::I64 => "i64",
-            Kind::F32 => "f32",
-            Kind::F64 => "f64",
-        }
+    pub fn integers() -> Vec<Kind> {
+        let all = Kind::ALL.iter().copied();
+        all.filter(|kind| !kind.is_float()).collect()
     }
 
     pub fn parse(text: &[u8]) -> Option<Kind> {
-        Kind::ALL
-            .into_iter()
-            .find(|kind| kind.name().as_bytes() == text)
+        let mut all = Kind::ALL.iter().copied();
+        all.find(|kind| kind.name().as_bytes() == text)
+    }
+
+    pub fn name(self) -> &'static str {
+        self.entry().0
     }
 
     /// Width in bits.
     pub fn width(self) -> u32 {
-        match self {
-            Kind::U8 | Kind::I8 => 8,
-            Kind::U16 | Kind::I16 => 16,
-            Kind::U32 | Kind::I32 | Kind::F32 => 32,
-            Kind::U64 | Kind::I64 | Kind::F64 => 64,
-        }
+        self.entry().1
+    }
+
+    pub fn form(self) -> Form {
+        self.entry().2
+    }
+
+    pub fn is_float(self) -> bool {
+        matches!(self.form(), Form::Float { .. })
     }
 
     /// Width in bytes.
@@ -93,9 +101,36 @@ impl Kind {
     pub fn top(self) -> u64 {
         1 << (self.width() - 1)
     }
+}
 
-    pub fn is_float(self) -> bool {
-        Kind::FLOATS.contains(&self)
+/// What float kinds alone have.
+impl Kind {
+    /// Number of fraction bits.
+    pub fn fraction(self) -> u32 {
+        match self.form() {
+            Form::Float { fraction } => fraction,
+            _ => panic!("{self:?} is no float kind"),
+        }
+    }
+
+    /// The exponent field of 1.
+    pub fn bias(self) -> u32 {
+        (1 << (self.width() - 2 - self.fraction())) - 1
+    }
+
+    /// The least normal pattern: the least exponent field but 0.
+    pub fn unit(self) -> u64 {
+        1 << self.fraction()
+    }
+
+    /// The pattern of 1.
+    pub fn one(self) -> u64 {
+        u64::from(self.bias()) << self.fraction()
+    }
+
+    /// The pattern of plus infinity; those above it are NaN.
+    pub fn infinity(self) -> u64 {
+        self.top() - self.unit()
     }
 }
 
@@ -109,10 +144,8 @@ pub struct Value {
 impl Value {
     /// Keeps the low bits that the kind has room for.
     pub fn new(kind: Kind, bits: u64) -> Value {
-        Value {
-            kind,
-            bits: bits & kind.mask(),
-        }
+        let bits = bits & kind.mask();
+        Value { kind, bits }
     }
 
     pub fn parse(text: &[u8]) -> Option<Value> {
@@ -126,39 +159,27 @@ impl Value {
         if digits.len() != kind.digits() {
             return None;
         }
-        Some(Value {
-            kind,
-            bits: hex(digits)?,
-        })
+        let bits = text::hex(digits)?;
+        Some(Value { kind, bits })
     }
 
     pub fn digits(self) -> String {
         format!("{:0width$x}", self.bits, width = self.kind.digits())
     }
-}
 
-/// No row of a case line has more samples.
-pub const LONGEST_ROW: usize = 8192;
+    /// By its bits; the judges ask Rust's own floats.
+    pub fn is_nan(self) -> bool {
+        self.kind.is_float() && self.bits & !self.kind.top() > self.kind.infinity()
+    }
 
-/// A row of samples, each as its digits alone.
-pub fn parse_row(kind: Kind, text: &[u8]) -> Option<Vec<Value>> {
-    list::parse(text, LONGEST_ROW, |digits| Value::of_digits(kind, digits))
-}
+    pub fn is_zero(self) -> bool {
+        self.bits == 0 || self.kind.is_float() && self.bits == self.kind.top()
+    }
 
-/// The length of a row.
-pub fn parse_length(text: &[u8]) -> Option<usize> {
-    parse_decimal(text, LONGEST_ROW)
-}
-
-/// A number in decimal as it is printed: no sign, and no zero in front.
-pub fn parse_decimal(text: &[u8], greatest: usize) -> Option<usize> {
-    let text = std::str::from_utf8(text).ok()?;
-    let number: usize = text.parse().ok()?;
-    (number <= greatest && number.to_string() == text).then_some(number)
-}
-
-pub fn row_text(row: &[Value]) -> String {
-    list::text(row.iter().map(|sample| sample.digits()))
+    /// The value so many steps further by bits, around the end of the width.
+    pub fn stepped(self, steps: i64) -> Value {
+        Value::new(self.kind, self.bits.wrapping_add(steps as u64))
+    }
 }
 
 impl fmt::Display for Value {
@@ -167,89 +188,48 @@ impl fmt::Display for Value {
     }
 }
 
-/// At most sixteen digits. Rust's own reading of numbers isn't used: it takes
-/// a sign and upper case.
-pub fn hex(digits: &[u8]) -> Option<u64> {
-    let mut bits = 0;
-    for &digit in digits {
-        let number = match digit {
-            b'0'..=b'9' => digit - b'0',
-            b'a'..=b'f' => digit - b'a' + 10,
-            _ => return None,
-        };
-        bits = bits << 4 | u64::from(number);
-    }
-    Some(bits)
+pub type Record = Vec<Value>;
+
+pub fn shape(record: &[Value]) -> Vec<Kind> {
+    record.iter().map(|value| value.kind).collect()
+}
+
+/// The number of bytes that a key of the shape has.
+pub fn key_length(shape: &[Kind]) -> usize {
+    shape.iter().map(|kind| kind.bytes()).sum()
 }
 
 #[cfg(test)]
 mod tests {
     use super::*;
-    use crate::odd;
-    use crate::random::Random;
 
+    /// The table against Rust's own constants.
     #[test]
-    fn printed_values_read_back() {
-        let mut random = Random::new(11);
-        for kind in Kind::ALL {
-            for _ in 0..1000 {
-                let value = Value::new(kind, random.next());
-                let text = value.to_string();
-                assert_eq!(text.len(), kind.name().len() + 1 + kind.digits());
-                assert_eq!(Value::parse(text.as_bytes()), Some(value));
-            }
-        }
+    fn floats_are_as_the_table_says() {
+        assert_eq!(Kind::F32.infinity(), u64::from(f32::INFINITY.to_bits()));
+        assert_eq!(Kind::F64.infinity(), f64::INFINITY.to_bits());
+        assert_eq!(Kind::F32.one(), u64::from(1f32.to_bits()));
+        assert_eq!(Kind::F64.one(), 1f64.to_bits());
+        assert_eq!(Kind::F32.unit(), u64::from(f32::MIN_POSITIVE.to_bits()));
+        assert_eq!(Kind::F64.unit(), f64::MIN_POSITIVE.to_bits());
     }
 
     #[test]
     fn printed_form() {
         assert_eq!(Value::new(Kind::I16, -1i16 as u64).to_string(), "i16:ffff");
         assert_eq!(Value::new(Kind::U8, 5).to_string(), "u8:05");
-        let minus_zero = u64::from((-0.0f32).to_bits());
-        assert_eq!(
-            Value::new(Kind::F32, minus_zero).to_string(),
-            "f32:80000000"
-        );
-    }
-
-    #[test]
-    fn printed_rows_read_back() {
-        let mut random = Random::new(12);
-        for length in 0..20 {
-            let row: Vec<Value> = (0..length)
-                .map(|_| Value::new(Kind::F32, random.next()))
-                .collect();
-            let text = row_text(&row);
-            assert_eq!(parse_row(Kind::F32, text.as_bytes()), Some(row));
+        for &kind in Kind::ALL {
+            for bits in [0, 5, 0x0123_4567_89ab_cdef, u64::MAX] {
+                let value = Value::new(kind, bits);
+                let text = value.to_string();
+                assert_eq!(text.len(), kind.name().len() + 1 + kind.digits());
+                assert_eq!(Value::parse(text.as_bytes()), Some(value));
+            }
         }
-    }
-
-    #[test]
-    fn rows_that_do_not_read() {
-        let texts = [
-            "", ",", "--", "-,", "00,", ",00", "00,,00", "00,-", "0", "000", "00;00",
-        ];
-        for text in texts {
-            assert_eq!(parse_row(Kind::U8, text.as_bytes()), None, "{text}");
-        }
-        let row = |length| row_text(&vec![Value::new(Kind::U8, 7); length]);
-        let read = |length| parse_row(Kind::U8, row(length).as_bytes());
-        assert_eq!(read(LONGEST_ROW).map(|row| row.len()), Some(LONGEST_ROW));
-        assert_eq!(read(LONGEST_ROW + 1), None);
-    }
-
-    #[test]
-    fn lengths() {
-        for length in [0, 1, 9, 10, 99, 100, 700, 1000, 8191, 8192] {
-            let text = length.to_string();
-            assert_eq!(parse_length(text.as_bytes()), Some(length));
-        }
-        for text in odd::LENGTHS {
-            assert_eq!(parse_length(text.as_bytes()), None, "{text}");
-            assert!(parse_decimal(text.as_bytes(), usize::MAX).is_some());
-        }
-        for text in odd::DECIMALS {
-            assert_eq!(parse_decimal(text.as_bytes(), usize::MAX), None, "{text}");
+        for text in [
+            "", "u8", "u8:", "u8:5", "u8:005", "u8:0A", "u8:+5", "U8:05", "u9:05",
+        ] {
+            assert_eq!(Value::parse(text.as_bytes()), None, "{text}");
         }
     }
 }

@@ -1,36 +1,50 @@
 //! The boundary's calls on samples, records and rows, and their answers as text,
 //! written as answers to case lines are.
 
+use std::num::FpCategory;
+
 use crate::silamogo::c;
-use oracle::bytes;
-use oracle::record;
+use oracle::answer::{text, Answer, Text};
+use oracle::text::bytes_text;
 use oracle::value::{Kind, Value};
 
 /// A sample as it passes: any number of a kind, any bits.
 pub type Raw = c::Sample;
 
+pub const CLASSES: [FpCategory; 5] = [
+    FpCategory::Zero,
+    FpCategory::Subnormal,
+    FpCategory::Normal,
+    FpCategory::Infinite,
+    FpCategory::Nan,
+];
+
 pub fn raw(value: Value) -> Raw {
-    c::Sample {
-        kind: kind_number(value.kind),
-        bits: value.bits,
+    let kind = value.kind as u8;
+    let bits = value.bits;
+    c::Sample { kind, bits }
+}
+
+/// The kind that a number names.
+pub fn kind(number: u8) -> Option<Kind> {
+    Kind::ALL.get(usize::from(number)).copied()
+}
+
+/// Holds an answer against the wanted one. An empty text is no answer.
+pub fn same(case: &str, wanted: &str, got: &str) -> Result<(), String> {
+    if wanted == got && !wanted.is_empty() {
+        return Ok(());
     }
+    Err(format!("{case} / {wanted} / {got}"))
 }
 
-pub fn kind_number(kind: Kind) -> u8 {
-    let place = Kind::ALL.iter().position(|&other| other == kind);
-    place.expect("one of all kinds") as u8
-}
-
-/// What was lent and given back: nothing but the answer may be there after a
-/// refusal.
-const CHANGED: &str = "changed after a refusal";
-
+/// Nothing that was lent may be changed after a refusal, and no result is given.
 fn refused(number: u8, place: usize, nothing: bool) -> String {
-    if nothing {
-        format!("refused {number} {place}")
-    } else {
-        CHANGED.to_string()
+    if !nothing {
+        return "changed after a refusal".to_string();
     }
+    let refused: Answer<Value> = Err((number.into(), place));
+    text(refused)
 }
 
 /// The text of an answer with a result, which has to be 0 after a refusal.
@@ -42,22 +56,29 @@ fn given<T: Copy + PartialEq>(a: c::Given<T>, zero: T, text: impl Fn(T) -> Strin
     }
 }
 
-fn named(names: &[&str], number: u8) -> String {
-    let name = names.get(usize::from(number));
-    name.map_or(format!("no such number: {number}"), |name| name.to_string())
+fn classed(a: c::Given<u8>) -> String {
+    given(a, 0, |class| {
+        let class = CLASSES.get(usize::from(class));
+        class.map_or("no class".to_string(), FpCategory::text)
+    })
+}
+
+fn positioned(a: c::Given<i64>) -> String {
+    given(a, 0, |position| position.to_string())
 }
 
 fn ordered(a: c::Given<u8>) -> String {
     let names = ["Less", "Equal", "Greater", "Unordered"];
-    given(a, 0, |order| named(&names, order))
+    given(a, 0, |order| {
+        let name = names.get(usize::from(order));
+        name.unwrap_or(&"no order").to_string()
+    })
 }
 
 fn sampled(a: c::Given<Raw>) -> String {
     let zero = c::Sample { kind: 0, bits: 0 };
-    given(a, zero, |s| match Kind::ALL.get(usize::from(s.kind)) {
-        Some(&kind) if Value::new(kind, s.bits).bits == s.bits => {
-            Value::new(kind, s.bits).to_string()
-        }
+    given(a, zero, |s| match kind(s.kind) {
+        Some(kind) if s.bits <= kind.mask() => Value::new(kind, s.bits).to_string(),
         _ => format!("no sample: {s:?}"),
     })
 }
@@ -65,35 +86,22 @@ fn sampled(a: c::Given<Raw>) -> String {
 // SAFETY of all calls: samples pass by value; pointers and lengths are those of
 // slices that are lent for the call.
 
-pub fn class(s: Raw) -> String {
-    let names = ["zero", "subnormal", "normal", "infinite", "nan"];
-    let a = unsafe { c::silamogo_classify(s) };
-    given(a, 0, |class| named(&names, class))
+macro_rules! of_samples {
+    ($($name:ident($($sample:ident)+) $call:ident $text:ident;)+) => {$(
+        pub fn $name($($sample: Raw),+) -> String {
+            $text(unsafe { c::$call($($sample),+) })
+        }
+    )+};
 }
 
-pub fn position(s: Raw) -> String {
-    let a = unsafe { c::silamogo_position(s) };
-    given(a, 0, |position| position.to_string())
-}
-
-pub fn compare(a: Raw, b: Raw) -> String {
-    ordered(unsafe { c::silamogo_compare(a, b) })
-}
-
-pub fn total(a: Raw, b: Raw) -> String {
-    ordered(unsafe { c::silamogo_total_order(a, b) })
-}
-
-pub fn min(a: Raw, b: Raw) -> String {
-    sampled(unsafe { c::silamogo_min(a, b) })
-}
-
-pub fn max(a: Raw, b: Raw) -> String {
-    sampled(unsafe { c::silamogo_max(a, b) })
-}
-
-pub fn clamp(v: Raw, lower: Raw, upper: Raw) -> String {
-    sampled(unsafe { c::silamogo_clamp(v, lower, upper) })
+of_samples! {
+    class(s) silamogo_classify classed;
+    position(s) silamogo_position positioned;
+    compare(a b) silamogo_compare ordered;
+    total(a b) silamogo_total_order ordered;
+    min(a b) silamogo_min sampled;
+    max(a b) silamogo_max sampled;
+    clamp(value lower upper) silamogo_clamp sampled;
 }
 
 pub fn convert(v: Raw, to: u8) -> String {
@@ -108,69 +116,48 @@ pub struct RawRecord {
 
 pub fn raw_record(record: &[Value]) -> RawRecord {
     RawRecord {
-        kinds: record.iter().map(|value| kind_number(value.kind)).collect(),
+        kinds: record.iter().map(|value| value.kind as u8).collect(),
         bits: record.iter().map(|value| value.bits).collect(),
     }
 }
 
 pub fn rcompare(a: &RawRecord, b: &RawRecord) -> String {
-    let ([a_kinds, b_kinds], [a_bits, b_bits]) = ([&a.kinds, &b.kinds], [&a.bits, &b.bits]);
-    ordered(unsafe {
-        c::silamogo_record_compare(
-            a_kinds.as_ptr(),
-            a_kinds.len(),
-            a_bits.as_ptr(),
-            a_bits.len(),
-            b_kinds.as_ptr(),
-            b_kinds.len(),
-            b_bits.as_ptr(),
-            b_bits.len(),
-        )
-    })
+    let [(a, m, x, n), (b, k, y, l)] = [a, b].map(|r| {
+        let (kinds, bits) = (&r.kinds, &r.bits);
+        (kinds.as_ptr(), kinds.len(), bits.as_ptr(), bits.len())
+    });
+    ordered(unsafe { c::silamogo_record_compare(a, m, x, n, b, k, y, l) })
 }
 
 /// Into a buffer of bytes that are all a5 before.
 pub fn write(r: &RawRecord, room: usize) -> String {
-    let mut buffer = vec![0xa5; room];
-    let (kinds, bits) = (&r.kinds, &r.bits);
-    let (from, length) = (buffer.as_mut_ptr(), buffer.len());
-    let a = unsafe {
-        c::silamogo_key_write(
-            kinds.as_ptr(),
-            kinds.len(),
-            bits.as_ptr(),
-            bits.len(),
-            from,
-            length,
-        )
-    };
-    if a.number != 0 && buffer != vec![0xa5; room] {
-        return CHANGED.to_string();
+    let before = vec![0xa5; room];
+    let mut buffer = before.clone();
+    let (kinds, m) = (r.kinds.as_ptr(), r.kinds.len());
+    let (bits, n) = (r.bits.as_ptr(), r.bits.len());
+    let a = unsafe { c::silamogo_key_write(kinds, m, bits, n, buffer.as_mut_ptr(), room) };
+    if a.number != 0 {
+        return refused(a.number, a.place, a.result == 0 && buffer == before);
     }
-    given(a, 0, |length| format!("{length} {}", bytes::text(&buffer)))
+    given(a, 0, |length| format!("{length} {}", bytes_text(&buffer)))
 }
 
 /// Into a row of as many bits as asked for, none of them 0 before.
 pub fn read(kinds: &[u8], key: &[u8], room: usize) -> String {
-    const BEFORE: u64 = 0xa5a5_a5a5_a5a5_a5a5;
-    let mut bits = vec![BEFORE; room];
-    let (from, length) = (bits.as_mut_ptr(), bits.len());
-    let a = unsafe {
-        c::silamogo_key_read(
-            kinds.as_ptr(),
-            kinds.len(),
-            key.as_ptr(),
-            key.len(),
-            from,
-            length,
-        )
-    };
+    let before = vec![0xa5a5_a5a5_a5a5_a5a5; room];
+    let mut bits = before.clone();
+    let (from, m) = (kinds.as_ptr(), kinds.len());
+    let a =
+        unsafe { c::silamogo_key_read(from, m, key.as_ptr(), key.len(), bits.as_mut_ptr(), room) };
     if a.number != 0 {
-        return refused(a.number, a.place, bits == vec![BEFORE; room]);
+        return refused(a.number, a.place, bits == before);
     }
-    let kinds = kinds.iter().map(|&kind| Kind::ALL[usize::from(kind)]);
-    let values = kinds.zip(bits).map(|(kind, bits)| Value { kind, bits });
-    record::text(&values.collect::<Vec<Value>>())
+    let fields = kinds.iter().zip(bits);
+    let fields = fields.map(|(&kind, bits)| Value {
+        kind: Kind::ALL[usize::from(kind)],
+        bits,
+    });
+    fields.collect::<Vec<Value>>().text()
 }
 
 /// A row into another, whose items are all `before`; the text of what comes of
@@ -197,10 +184,9 @@ pub fn rowclamp(lower: f32, upper: f32, row: &[f32], text: impl Fn(&[f32]) -> St
     let mut pairs = clamped.iter().zip(row);
     match a.number {
         0 => text(&clamped),
-        number => refused(
-            number,
-            a.place,
-            pairs.all(|(x, y)| x.to_bits() == y.to_bits()),
-        ),
+        number => {
+            let nothing = pairs.all(|(x, y)| x.to_bits() == y.to_bits());
+            refused(number, a.place, nothing)
+        }
     }
 }

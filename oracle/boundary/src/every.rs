@@ -2,15 +2,15 @@
 //! position, conversion to every kind and back, key and reading it back, and the
 //! pattern read as a key.
 
-use std::num::FpCategory;
+use std::fmt::Debug;
 use std::sync::atomic::{AtomicBool, AtomicU64, Ordering::Relaxed};
 use std::sync::Mutex;
 use std::time::Instant;
 use std::{cmp, thread};
 
+use crate::calls::{raw, CLASSES};
 use crate::silamogo::c;
-use oracle::judge::convert::converted;
-use oracle::judge::key;
+use oracle::judge::{convert, key};
 use oracle::value::{Kind, Value};
 
 /// Patterns on either side of each border of exponents.
@@ -86,99 +86,70 @@ fn at(place: u32) -> Result<(), String> {
     let x = f32::from_bits(bits);
     if let Some(below) = place.checked_sub(1) {
         let order = f32::from_bits(pattern(below)).total_cmp(&x);
-        held(
-            bits,
-            "total_cmp with the one below",
-            order,
-            cmp::Ordering::Less,
-        )?;
+        held(bits, "total_cmp", order, cmp::Ordering::Less)?;
     }
-    let s = sample(Value::new(Kind::F32, bits.into()));
-    let position = i64::from(place) - (1 << 31);
+    let s = raw(value(bits));
     // SAFETY of all calls: samples pass by value, and slices as they are.
-    held(
-        bits,
-        "class",
-        unsafe { c::silamogo_classify(s) },
-        given(class_number(x)),
-    )?;
+    let class = CLASSES.iter().position(|&class| class == x.classify());
+    let class = given(class.expect("a class") as u8);
+    held(bits, "class", unsafe { c::silamogo_classify(s) }, class)?;
+    let position = given(i64::from(place) - (1 << 31));
     held(
         bits,
         "position",
         unsafe { c::silamogo_position(s) },
-        given(position),
+        position,
     )?;
-    Kind::ALL
-        .into_iter()
-        .try_for_each(|kind| convert(bits, kind))?;
+    Kind::ALL.iter().try_for_each(|&kind| convert(bits, kind))?;
     write(bits)?;
     read(bits)
 }
 
-fn held<T: PartialEq + std::fmt::Debug>(
-    bits: u32,
-    what: &str,
-    got: T,
-    wanted: T,
-) -> Result<(), String> {
+fn held<T: PartialEq + Debug>(bits: u32, what: &str, got: T, wanted: T) -> Result<(), String> {
     if got == wanted {
         return Ok(());
     }
     Err(format!("f32:{bits:08x} {what} / {wanted:x?} / {got:x?}"))
 }
 
+fn value(bits: u32) -> Value {
+    Value::new(Kind::F32, bits.into())
+}
+
 fn given<T>(result: T) -> c::Given<T> {
+    let (number, place) = (0, 0);
     c::Given {
-        number: 0,
-        place: 0,
+        number,
+        place,
         result,
     }
 }
 
-fn refused<T>(number: u8, nothing: T) -> c::Given<T> {
+fn refused<T>(number: u32, nothing: T) -> c::Given<T> {
+    let number = number as u8;
     c::Given {
         number,
-        place: 0,
-        result: nothing,
-    }
-}
-
-fn sample(value: Value) -> c::Sample {
-    c::Sample {
-        kind: value.kind as u8,
-        bits: value.bits,
-    }
-}
-
-fn class_number(x: f32) -> u8 {
-    match x.classify() {
-        FpCategory::Zero => 0,
-        FpCategory::Subnormal => 1,
-        FpCategory::Normal => 2,
-        FpCategory::Infinite => 3,
-        FpCategory::Nan => 4,
+        ..given(nothing)
     }
 }
 
 /// To the kind; and what came there, back: the same bits, but for a minus zero
 /// that went through an integer.
 fn convert(bits: u32, kind: Kind) -> Result<(), String> {
-    let value = Value::new(Kind::F32, bits.into());
-    let got = unsafe { c::silamogo_convert(sample(value), kind as u8) };
-    let there = match converted(value, kind) {
+    let got = unsafe { c::silamogo_convert(raw(value(bits)), kind as u8) };
+    let there = match convert::convert(value(bits), kind) {
         Ok(there) => there,
-        Err(number) => {
-            let nothing = refused(number as u8, c::Sample { kind: 0, bits: 0 });
-            return held(bits, kind.name(), got, nothing);
+        Err((number, _)) => {
+            let nothing = c::Sample { kind: 0, bits: 0 };
+            return held(bits, kind.name(), got, refused(number, nothing));
         }
     };
-    held(bits, kind.name(), got, given(sample(there)))?;
-    let back = unsafe { c::silamogo_convert(sample(there), Kind::F32 as u8) };
+    held(bits, kind.name(), got, given(raw(there)))?;
+    let back = unsafe { c::silamogo_convert(raw(there), Kind::F32 as u8) };
     let x = f32::from_bits(bits);
     let whole = if kind.is_float() { x } else { x + 0.0 };
     let wanted = if x.is_nan() { bits } else { whole.to_bits() };
-    let wanted = sample(Value::new(Kind::F32, wanted.into()));
-    held(bits, "and back", back, given(wanted))
+    held(bits, "and back", back, given(raw(value(wanted))))
 }
 
 const F32: [u8; 1] = [Kind::F32 as u8];
@@ -197,40 +168,28 @@ fn write(bits: u32) -> Result<(), String> {
     }
     held(bits, "key", got, given(4))?;
     let mut wanted = [0xa5; 6];
-    wanted[..4].copy_from_slice(&key::key(&[Value::new(Kind::F32, bits.into())]));
+    wanted[..4].copy_from_slice(&key::key(&[value(bits)]));
     held(bits, "buffer", buffer, wanted)?;
-    let (answer, read) = fields_of(&buffer[..4]);
-    held(bits, "key read", (answer.number, answer.place), (0, 0))?;
-    held(bits, "field read", read, (x + 0.0).to_bits().into())
+    let (number, place, read) = fields_of(&buffer[..4]);
+    let wanted = (0, 0, (x + 0.0).to_bits().into());
+    held(bits, "key read", (number, place, read), wanted)
 }
 
 /// The pattern as if it were a key.
 fn read(bits: u32) -> Result<(), String> {
     let bytes = bits.to_be_bytes();
-    let (answer, read) = fields_of(&bytes);
-    let (number, field) = match key::value_of(Kind::F32, &bytes) {
-        Some(value) => (0, value.bits),
-        None => (12, BEFORE),
+    let wanted = match key::value_of(Kind::F32, &bytes) {
+        Some(value) => (0, 0, value.bits),
+        None => (12, 0, BEFORE),
     };
-    held(
-        bits,
-        "read as a key",
-        (answer.number, answer.place, read),
-        (number, 0, field),
-    )
+    held(bits, "read as a key", fields_of(&bytes), wanted)
 }
 
-fn fields_of(key: &[u8]) -> (c::Answer, u64) {
+/// The number and place of the answer, and the field.
+fn fields_of(key: &[u8]) -> (u8, usize, u64) {
     let mut fields = [BEFORE];
-    let answer = unsafe {
-        c::silamogo_key_read(
-            F32.as_ptr(),
-            1,
-            key.as_ptr(),
-            key.len(),
-            fields.as_mut_ptr(),
-            1,
-        )
-    };
-    (answer, fields[0])
+    let (bytes, length) = (key.as_ptr(), key.len());
+    let answer =
+        unsafe { c::silamogo_key_read(F32.as_ptr(), 1, bytes, length, fields.as_mut_ptr(), 1) };
+    (answer.number, answer.place, fields[0])
 }

@@ -3,65 +3,83 @@
 
 use crate::calls;
 use crate::silamogo::c;
-use oracle::bytes;
-use oracle::record;
-use oracle::value::{self, parse_decimal, Kind, Value};
+use oracle::answer::{Row, Text};
+use oracle::grammar::{self, LONGEST_ROW};
+use oracle::text::{bytes, decimal};
+use oracle::value::{Kind, Value};
 
-/// The words of lines that the boundary has a call for.
-pub const WORDS: [&str; 12] = [
-    "class", "compare", "total", "min", "max", "clamp", "convert", "rcompare", "write", "read",
-    "rowclamp", "row",
+type Operands<'a> = &'a [&'a [u8]];
+
+/// The words of lines that the boundary has a call for, and its answer; nothing
+/// for operands that aren't of the grammar.
+pub const CALLS: &[(&str, fn(Operands) -> Option<String>)] = &[
+    ("class", |o| Some(calls::class(sample(o[0])?))),
+    ("compare", |o| {
+        Some(calls::compare(sample(o[0])?, sample(o[1])?))
+    }),
+    ("total", |o| {
+        Some(calls::total(sample(o[0])?, sample(o[1])?))
+    }),
+    ("min", |o| Some(calls::min(sample(o[0])?, sample(o[1])?))),
+    ("max", |o| Some(calls::max(sample(o[0])?, sample(o[1])?))),
+    ("clamp", |o| {
+        Some(calls::clamp(sample(o[0])?, sample(o[1])?, sample(o[2])?))
+    }),
+    ("convert", |o| {
+        Some(calls::convert(sample(o[0])?, Kind::parse(o[1])? as u8))
+    }),
+    ("rcompare", |o| {
+        Some(calls::rcompare(&record(o[0])?, &record(o[1])?))
+    }),
+    ("write", |o| {
+        Some(calls::write(&record(o[0])?, decimal(o[1], usize::MAX)?))
+    }),
+    ("read", |o| {
+        let shape = grammar::shape(o[0])?.into_iter();
+        let kinds: Vec<u8> = shape.map(|kind| kind as u8).collect();
+        Some(calls::read(&kinds, &bytes(o[1])?, kinds.len()))
+    }),
+    ("rowclamp", |o| {
+        let bound = |text| Value::of_digits(Kind::F32, text).map(float);
+        let row = floats(&grammar::row(Kind::F32, o[2])?);
+        Some(calls::rowclamp(
+            bound(o[0])?,
+            bound(o[1])?,
+            &row,
+            text_of_floats,
+        ))
+    }),
+    ("row", row),
 ];
 
-/// Nothing for a line that isn't of the grammar.
-pub fn answer(word: &str, operands: &str) -> Option<String> {
-    let fields: Vec<&[u8]> = operands.split(' ').map(str::as_bytes).collect();
-    let sample = |place: usize| Value::parse(fields[place]).map(calls::raw);
-    let a_record = |place: usize| record::parse(fields[place]).map(|r| calls::raw_record(&r));
-    Some(match word {
-        "class" => calls::class(sample(0)?),
-        "compare" => calls::compare(sample(0)?, sample(1)?),
-        "total" => calls::total(sample(0)?, sample(1)?),
-        "min" => calls::min(sample(0)?, sample(1)?),
-        "max" => calls::max(sample(0)?, sample(1)?),
-        "clamp" => calls::clamp(sample(0)?, sample(1)?, sample(2)?),
-        "convert" => calls::convert(sample(0)?, calls::kind_number(Kind::parse(fields[1])?)),
-        "rcompare" => calls::rcompare(&a_record(0)?, &a_record(1)?),
-        "write" => calls::write(&a_record(0)?, parse_decimal(fields[1], usize::MAX)?),
-        "read" => {
-            let shape = record::parse_shape(fields[0])?;
-            let kinds: Vec<u8> = shape.into_iter().map(calls::kind_number).collect();
-            calls::read(&kinds, &bytes::parse(fields[1])?, kinds.len())
-        }
-        "rowclamp" => {
-            let bound = |place: usize| Value::of_digits(Kind::F32, fields[place]).map(float);
-            let row = floats(&value::parse_row(Kind::F32, fields[2])?);
-            calls::rowclamp(bound(0)?, bound(1)?, &row, text_of_floats)
-        }
-        "row" => row(&fields)?,
-        _ => return None,
-    })
+fn sample(text: &[u8]) -> Option<calls::Raw> {
+    Value::parse(text).map(calls::raw)
 }
 
-fn row(fields: &[&[u8]]) -> Option<String> {
-    let [from, to] = [Kind::parse(fields[0])?, Kind::parse(fields[1])?];
-    let samples = value::parse_row(from, fields[2])?;
-    let room = value::parse_length(fields[3])?;
-    let bytes = |samples: &[Value]| -> Vec<u8> { samples.iter().map(|s| s.bits as u8).collect() };
-    let words = |samples: &[Value]| -> Vec<u16> { samples.iter().map(|s| s.bits as u16).collect() };
+fn record(text: &[u8]) -> Option<calls::RawRecord> {
+    grammar::record(text).map(|record| calls::raw_record(&record))
+}
+
+fn row(operands: Operands) -> Option<String> {
+    let [from, to] = [Kind::parse(operands[0])?, Kind::parse(operands[1])?];
+    let samples = grammar::row(from, operands[2])?;
+    let room = decimal(operands[3], LONGEST_ROW)?;
+    let bytes: Vec<u8> = samples.iter().map(|sample| sample.bits as u8).collect();
+    let words: Vec<u16> = samples.iter().map(|sample| sample.bits as u16).collect();
     Some(match (from, to) {
         (Kind::U8, Kind::U16) => {
-            let src = bytes(&samples);
-            calls::row(c::silamogo_row_u8_to_u16, &src, room, 0xa5a5, text_of(to))
+            calls::row(c::silamogo_row_u8_to_u16, &bytes, room, 0xa5a5, text_of(to))
         }
         (Kind::U16, Kind::U8) => {
-            let src = words(&samples);
-            calls::row(c::silamogo_row_u16_to_u8, &src, room, 0xa5, text_of(to))
+            calls::row(c::silamogo_row_u16_to_u8, &words, room, 0xa5, text_of(to))
         }
-        (Kind::U16, Kind::F32) => {
-            let src = words(&samples);
-            calls::row(c::silamogo_row_u16_to_f32, &src, room, 0.5, text_of_floats)
-        }
+        (Kind::U16, Kind::F32) => calls::row(
+            c::silamogo_row_u16_to_f32,
+            &words,
+            room,
+            0.5,
+            text_of_floats,
+        ),
         (Kind::F32, Kind::U16) => {
             let src = floats(&samples);
             calls::row(c::silamogo_row_f32_to_u16, &src, room, 0xa5a5, text_of(to))
@@ -73,7 +91,7 @@ fn row(fields: &[&[u8]]) -> Option<String> {
 fn text_of<D: Copy + Into<u64>>(kind: Kind) -> impl Fn(&[D]) -> String {
     move |row| {
         let values = row.iter().map(|&item| Value::new(kind, item.into()));
-        value::row_text(&values.collect::<Vec<Value>>())
+        Row(values.collect()).text()
     }
 }
 

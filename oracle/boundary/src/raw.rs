@@ -2,16 +2,16 @@
 //! have, lists that differ in length; and positions. The rules that the boundary
 //! adds stand here, before the judges of case lines.
 
-use std::cmp::Ordering;
-
-use crate::calls::{self, Raw, RawRecord};
-use crate::cases::same;
-use oracle::cases::{self, any_kind, value};
-use oracle::judge;
+use crate::calls::{self, kind, same, Raw, RawRecord};
+use oracle::answer::{text, Answer, Text};
+use oracle::grammar::{record, shape};
+use oracle::judge::order::total;
+use oracle::judge::{choice, convert, key, order, record as records};
+use oracle::operands;
+use oracle::operands::value::{any_kind, neighbour, value};
 use oracle::random::Random;
-use oracle::record;
-use oracle::value::{Kind, Value};
-use oracle::{bytes, edges};
+use oracle::text::{bytes, bytes_text};
+use oracle::value::{Kind, Record, Value};
 
 pub fn case(random: &mut Random) -> Result<(), String> {
     match random.below(8) {
@@ -28,14 +28,10 @@ pub fn case(random: &mut Random) -> Result<(), String> {
 /// Mostly a number that names a kind.
 fn any_number(random: &mut Random) -> u8 {
     match random.below(12) {
-        0 => 10,
+        0 => Kind::ALL.len() as u8,
         1 => random.next() as u8,
-        _ => calls::kind_number(any_kind(random)),
+        _ => any_kind(random) as u8,
     }
-}
-
-fn kind(number: u8) -> Option<Kind> {
-    Kind::ALL.get(usize::from(number)).copied()
 }
 
 /// Mostly a sample, of a given kind where there is one.
@@ -49,45 +45,45 @@ fn any_sample(random: &mut Random, number: u8) -> Raw {
     Raw { kind: number, bits }
 }
 
-/// The values of samples; else the refusal of the first rule that holds.
-fn values(samples: &[Raw]) -> Result<Vec<Value>, String> {
-    let kinds: Option<Vec<Kind>> = samples.iter().map(|s| kind(s.kind)).collect();
-    let kinds = kinds.ok_or("refused 7 0")?;
-    let values = kinds.into_iter().zip(samples);
-    let values: Vec<Value> = values.map(|(kind, s)| Value::new(kind, s.bits)).collect();
-    let wide = values.iter().zip(samples).any(|(v, s)| v.bits != s.bits);
-    if wide {
-        return Err("refused 4 0".to_string());
-    }
-    Ok(values)
+/// The kinds that numbers name; 7 when one names none.
+fn named(numbers: &[u8]) -> Answer<Vec<Kind>> {
+    let kinds: Option<Vec<Kind>> = numbers.iter().map(|&number| kind(number)).collect();
+    kinds.ok_or((7, 0))
 }
 
-/// The judge's answer about values that passed the boundary's own rules.
-fn judged(judge: fn(&[&[u8]]) -> Option<String>, operands: Result<Vec<String>, String>) -> String {
-    match operands {
-        Ok(operands) => {
-            let operands: Vec<&[u8]> = operands.iter().map(String::as_bytes).collect();
-            judge(&operands).expect("operands of the grammar")
-        }
-        Err(refused) => refused,
+/// The values of kinds and bits; 4 at the first bits that the kind doesn't have.
+fn values(kinds: &[Kind], bits: &[u64]) -> Answer<Vec<Value>> {
+    let pairs = kinds.iter().zip(bits);
+    let values: Vec<Value> = pairs.map(|(&kind, &bits)| Value { kind, bits }).collect();
+    match values
+        .iter()
+        .position(|value| value.bits > value.kind.mask())
+    {
+        Some(place) => Err((4, place)),
+        None => Ok(values),
     }
 }
 
-fn texts(values: Vec<Value>) -> Vec<String> {
-    values.iter().map(Value::to_string).collect()
+/// The values of samples, each with the place 0.
+fn of<const COUNT: usize>(samples: [Raw; COUNT]) -> Answer<[Value; COUNT]> {
+    let kinds = named(&samples.map(|sample| sample.kind))?;
+    let values = values(&kinds, &samples.map(|sample| sample.bits));
+    let values = values.map_err(|(number, _)| (number, 0))?;
+    Ok(values.try_into().expect("as many values"))
 }
 
 fn one_float(random: &mut Random) -> Result<(), String> {
     let number = any_number(random);
     let s = any_sample(random, number);
     let float = match kind(number).is_some_and(Kind::is_float) {
-        true => values(&[s]),
-        false => Err("refused 7 0".to_string()),
+        true => of([s]),
+        false => Err((7, 0)),
     };
-    if let Err(refused) = &float {
-        same(&format!("position {s:x?}"), refused, &calls::position(s))?;
+    if let Err(refused) = float {
+        let wanted = text::<Value>(Err(refused));
+        same(&format!("position {s:x?}"), &wanted, &calls::position(s))?;
     }
-    let wanted = judged(judge::class, float.map(texts));
+    let wanted = text(float.and_then(|[value]| order::class(value)));
     same(&format!("class {s:x?}"), &wanted, &calls::class(s))
 }
 
@@ -98,17 +94,16 @@ fn of_samples(random: &mut Random) -> Result<(), String> {
         let number = if other { any_number(random) } else { number };
         any_sample(random, number)
     });
-    let pair = || values(&[a, b]).map(texts);
     let case = |word: &str| format!("{word} {a:x?} {b:x?}");
-    let wanted = judged(judge::compare, pair());
+    let wanted = text(of([a, b]).and_then(|[a, b]| order::compare(a, b)));
     same(&case("compare"), &wanted, &calls::compare(a, b))?;
-    let wanted = judged(judge::total, pair());
+    let wanted = text(of([a, b]).and_then(|[a, b]| total(a, b)));
     same(&case("total"), &wanted, &calls::total(a, b))?;
-    let wanted = judged(judge::choice::min, pair());
+    let wanted = text(of([a, b]).and_then(|[a, b]| choice::min(a, b)));
     same(&case("min"), &wanted, &calls::min(a, b))?;
-    let wanted = judged(judge::choice::max, pair());
+    let wanted = text(of([a, b]).and_then(|[a, b]| choice::max(a, b)));
     same(&case("max"), &wanted, &calls::max(a, b))?;
-    let wanted = judged(judge::choice::clamp, values(&[a, b, c]).map(texts));
+    let wanted = text(of([a, b, c]).and_then(|[a, b, c]| choice::clamp(a, b, c)));
     let case = format!("clamp {a:x?} {b:x?} {c:x?}");
     same(&case, &wanted, &calls::clamp(a, b, c))
 }
@@ -116,13 +111,10 @@ fn of_samples(random: &mut Random) -> Result<(), String> {
 fn convert(random: &mut Random) -> Result<(), String> {
     let [from, to] = [0; 2].map(|_| any_number(random));
     let s = any_sample(random, from);
-    let operands = match kind(to) {
-        Some(to) => values(&[s]).map(|v| vec![v[0].to_string(), to.name().to_string()]),
-        None => Err("refused 7 0".to_string()),
-    };
-    let wanted = judged(judge::convert::convert, operands);
+    let kinds = named(&[from, to]);
+    let converted = kinds.and_then(|kinds| convert::convert(of([s])?[0], kinds[1]));
     let got = calls::convert(s, to);
-    same(&format!("convert {s:x?} {to}"), &wanted, &got)
+    same(&format!("convert {s:x?} {to}"), &text(converted), &got)
 }
 
 /// A record of one line, damaged as no line can be.
@@ -141,72 +133,52 @@ fn damaged(random: &mut Random, record: &[Value]) -> RawRecord {
     raw
 }
 
-/// The values of records; else the refusal of the first rule that holds: every
-/// kind, then every length, then the bits, record by record.
-fn records<const COUNT: usize>(raws: [&RawRecord; COUNT]) -> Result<Vec<String>, String> {
-    let unnamed = |raw: &RawRecord| raw.kinds.iter().any(|&number| kind(number).is_none());
-    if raws.into_iter().any(unnamed) {
-        return Err("refused 7 0".to_string());
+/// The records; else the refusal of the first rule that holds: every kind, then
+/// every length, then the bits, record by record.
+fn fields(raws: &[&RawRecord]) -> Answer<Vec<Record>> {
+    let shapes: Answer<Vec<Vec<Kind>>> = raws.iter().map(|raw| named(&raw.kinds)).collect();
+    let shapes = shapes?;
+    if raws.iter().any(|raw| raw.kinds.len() != raw.bits.len()) {
+        return Err((9, 0));
     }
-    if raws
-        .into_iter()
-        .any(|raw| raw.kinds.len() != raw.bits.len())
-    {
-        return Err("refused 9 0".to_string());
-    }
-    let mut texts = Vec::new();
-    for raw in raws {
-        let kinds = raw.kinds.iter().filter_map(|&number| kind(number));
-        let values = kinds.zip(&raw.bits);
-        let values: Vec<Value> = values.map(|(kind, &bits)| Value::new(kind, bits)).collect();
-        let wide = values
-            .iter()
-            .zip(&raw.bits)
-            .position(|(v, &bits)| v.bits != bits);
-        if let Some(place) = wide {
-            return Err(format!("refused 4 {place}"));
-        }
-        texts.push(record::text(&values));
-    }
-    Ok(texts)
-}
-
-fn parsed(text: &str) -> Vec<Value> {
-    record::parse(text.as_bytes()).expect("a record")
+    let pairs = shapes.iter().zip(raws);
+    pairs.map(|(shape, raw)| values(shape, &raw.bits)).collect()
 }
 
 fn shown(raw: &RawRecord) -> String {
     format!("{:?} {:x?}", raw.kinds, raw.bits)
 }
 
+fn parsed(text: &str) -> Record {
+    record(text.as_bytes()).expect("a record")
+}
+
 fn rcompare(random: &mut Random) -> Result<(), String> {
-    let operands = cases::record::pair(random);
+    let operands = operands::record::pair(random);
     let (first, second) = operands.split_once(' ').expect("two records");
     let [a, b] = [first, second].map(|text| damaged(random, &parsed(text)));
-    let wanted = judged(judge::record::rcompare, records([&a, &b]));
+    let wanted = text(fields(&[&a, &b]).and_then(|both| records::compare(&both[0], &both[1])));
     let case = format!("rcompare {} {}", shown(&a), shown(&b));
     same(&case, &wanted, &calls::rcompare(&a, &b))
 }
 
 fn write(random: &mut Random) -> Result<(), String> {
-    let operands = cases::key::write(random);
-    let (text, room) = operands.split_once(' ').expect("a record and a room");
-    let raw = damaged(random, &parsed(text));
-    let with_room = |mut texts: Vec<String>| {
-        texts.push(room.to_string());
-        texts
-    };
-    let wanted = judged(judge::key::write, records([&raw]).map(with_room));
-    let got = calls::write(&raw, room.parse().expect("a room"));
+    let operands = operands::key::write(random);
+    let (record, room) = operands.split_once(' ').expect("a record and a room");
+    let raw = damaged(random, &parsed(record));
+    let room = room.parse().expect("a room");
+    let wanted = text(fields(&[&raw]).and_then(|one| key::write(&one[0], room)));
+    let got = calls::write(&raw, room);
     same(&format!("write {} {room}", shown(&raw)), &wanted, &got)
 }
 
 /// A room for another number of fields, or a number that names no kind.
 fn read(random: &mut Random) -> Result<(), String> {
-    let operands = cases::key::read(random);
-    let (shape, key) = operands.split_once(' ').expect("a shape and a key");
-    let shape = record::parse_shape(shape.as_bytes()).expect("a shape");
-    let mut kinds: Vec<u8> = shape.into_iter().map(calls::kind_number).collect();
+    let operands = operands::key::read(random);
+    let (kinds, bytes_of_key) = operands.split_once(' ').expect("a shape and a key");
+    let kinds = shape(kinds.as_bytes()).expect("a shape");
+    let bytes = bytes(bytes_of_key.as_bytes()).expect("bytes");
+    let mut kinds: Vec<u8> = kinds.into_iter().map(|kind| kind as u8).collect();
     if !kinds.is_empty() && random.one_in(3) {
         let place = random.below(kinds.len());
         kinds[place] = any_number(random);
@@ -215,32 +187,31 @@ fn read(random: &mut Random) -> Result<(), String> {
         0 => random.below(14),
         _ => kinds.len(),
     };
-    let named: Option<Vec<Kind>> = kinds.iter().map(|&number| kind(number)).collect();
-    let operands = match named {
-        None => Err("refused 7 0".to_string()),
-        Some(_) if room != kinds.len() => Err("refused 9 0".to_string()),
-        Some(shape) => Ok(vec![record::shape_text(&shape), key.to_string()]),
-    };
-    let wanted = judged(judge::key::read, operands);
-    let bytes = bytes::parse(key.as_bytes()).expect("bytes");
+    let wanted = text(named(&kinds).and_then(|shape| match room == kinds.len() {
+        true => key::read(&shape, &bytes),
+        false => Err((9, 0)),
+    }));
     let got = calls::read(&kinds, &bytes, room);
-    same(&format!("read {kinds:?} {key} {room}"), &wanted, &got)
+    let case = format!("read {kinds:?} {} {room}", bytes_text(&bytes));
+    same(&case, &wanted, &got)
 }
 
 /// Two positions are ordered as `total_cmp` orders; the positions of patterns
-/// that are next to each other differ by one; plus zero is at 0.
+/// that are next to each other differ by one; the zeros are at 0 and at -1.
 fn position(random: &mut Random) -> Result<(), String> {
-    let kind = random.pick(&Kind::FLOATS);
+    let kind = random.pick(&Kind::floats());
     let first = value(random, kind);
-    let near = edges::neighbour(random, first);
-    let zero = Value::new(kind, 0);
-    same("position of zero", "0", &calls::position(calls::raw(zero)))?;
+    let near = neighbour(random, first);
+    for (zero, wanted) in [(0, "0"), (kind.top(), "-1")] {
+        let got = calls::position(calls::raw(Value::new(kind, zero)));
+        same("position of a zero", wanted, &got)?;
+    }
     for second in [near, value(random, kind)] {
         let case = format!("positions of {first} and {second}");
         let [a, b] = [first, second].map(|v| calls::position(calls::raw(v)));
         let [x, y]: [i128; 2] = [&a, &b].map(|text| text.parse().unwrap_or(i128::MAX));
-        let wanted = total(first, second);
-        same(&case, &format!("{wanted:?}"), &format!("{:?}", x.cmp(&y)))?;
+        let wanted = text(total(first, second));
+        same(&case, &wanted, &Some(x.cmp(&y)).text())?;
         let one_apart =
             first.bits.abs_diff(second.bits) == 1 && (first.bits ^ second.bits) & kind.top() == 0;
         if one_apart {
@@ -248,11 +219,4 @@ fn position(random: &mut Random) -> Result<(), String> {
         }
     }
     Ok(())
-}
-
-fn total(a: Value, b: Value) -> Ordering {
-    match a.kind {
-        Kind::F32 => f32::from_bits(a.bits as u32).total_cmp(&f32::from_bits(b.bits as u32)),
-        _ => f64::from_bits(a.bits).total_cmp(&f64::from_bits(b.bits)),
-    }
 }

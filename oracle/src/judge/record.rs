@@ -3,9 +3,9 @@
 
 use std::cmp::{max_by, min_by, Ordering};
 
-use super::{order, ordering, refused};
-use crate::record::{self, MOST_FIELDS};
-use crate::value::Value;
+use super::order::ordering;
+use crate::answer::Answer;
+use crate::value::{shape, Record, Value};
 
 #[derive(Clone, Copy)]
 struct Field(Value);
@@ -22,60 +22,45 @@ impl PartialEq for Field {
     }
 }
 
-type Fields = Vec<Field>;
-
-pub fn rcompare(operands: &[&[u8]]) -> Option<String> {
-    of_pair(operands, |a, b| order(a.partial_cmp(&b)))
-}
-
-pub fn rmin(operands: &[&[u8]]) -> Option<String> {
-    chosen(operands, |a, b| min_by(a, b, order_of_fields))
-}
-
-pub fn rmax(operands: &[&[u8]]) -> Option<String> {
-    chosen(operands, |a, b| max_by(a, b, order_of_fields))
-}
-
-/// Comparison of two records of one shape; nothing for Unordered.
-pub fn compared(a: &[Value], b: &[Value]) -> Option<Ordering> {
-    fields(a).partial_cmp(&fields(b))
-}
-
-pub fn is_count(count: usize) -> bool {
-    (1..=MOST_FIELDS).contains(&count)
-}
-
-fn fields(record: &[Value]) -> Fields {
+fn fields(record: &[Value]) -> Vec<Field> {
     record.iter().map(|&value| Field(value)).collect()
 }
 
-fn order_of_fields(a: &Fields, b: &Fields) -> Ordering {
-    a.partial_cmp(b).expect("ordered")
+/// Comparison of two records of one shape; nothing for Unordered.
+pub fn ordered(a: &[Value], b: &[Value]) -> Option<Ordering> {
+    fields(a).partial_cmp(&fields(b))
 }
 
-/// Two records that can be ordered; refusal 8 for others.
-fn chosen(operands: &[&[u8]], choose: fn(Fields, Fields) -> Fields) -> Option<String> {
-    of_pair(operands, |a, b| {
-        if a.partial_cmp(&b).is_none() {
-            let deciding = a.iter().zip(&b).position(|(x, y)| x != y);
-            return refused(8, deciding.expect("unordered fields"));
-        }
-        let values = choose(a, b).into_iter().map(|Field(value)| value);
-        record::text(&values.collect::<Vec<Value>>())
-    })
+/// Refusal 11 for a number of fields that no record has.
+pub fn count(count: usize) -> Answer<()> {
+    (1..=12).contains(&count).then_some(()).ok_or((11, 0))
 }
 
-/// Two records of one shape; refusals 11 and 7 for others.
-fn of_pair(operands: &[&[u8]], answer: impl Fn(Fields, Fields) -> String) -> Option<String> {
-    let &[first, second] = operands else {
-        return None;
-    };
-    let (a, b) = (record::parse(first)?, record::parse(second)?);
-    Some(if !is_count(a.len()) || !is_count(b.len()) {
-        refused(11, 0)
-    } else if record::shape(&a) != record::shape(&b) {
-        refused(7, 0)
-    } else {
-        answer(fields(&a), fields(&b))
-    })
+pub fn compare(a: &Record, b: &Record) -> Answer<Option<Ordering>> {
+    count(a.len())?;
+    count(b.len())?;
+    if shape(a) != shape(b) {
+        return Err((7, 0));
+    }
+    Ok(ordered(a, b))
+}
+
+pub fn min(a: &Record, b: &Record) -> Answer<Record> {
+    can_be_ordered(a, b)?;
+    Ok(min_by(a, b, |a, b| ordered(a, b).expect("ordered")).clone())
+}
+
+pub fn max(a: &Record, b: &Record) -> Answer<Record> {
+    can_be_ordered(a, b)?;
+    Ok(max_by(a, b, |a, b| ordered(a, b).expect("ordered")).clone())
+}
+
+/// Refusal 8 has the place of the first field that isn't Equal.
+fn can_be_ordered(a: &Record, b: &Record) -> Answer<()> {
+    if compare(a, b)?.is_some() {
+        return Ok(());
+    }
+    let mut pairs = fields(a).into_iter().zip(fields(b));
+    let place = pairs.position(|(x, y)| x != y);
+    Err((8, place.expect("unordered fields")))
 }

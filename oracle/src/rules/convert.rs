@@ -1,12 +1,15 @@
 //! Exact conversion in whole numbers, of units of 2^-1074.
 
-use super::{abs, infinity, integer, negative, scaled_by, shifted, Refused, Whole};
+use std::cmp::Ordering;
+
+use super::whole::{abs, integer, negative, scaled, Whole};
+use crate::answer::{Answer, Row};
 use crate::value::{Kind, Value};
 
 /// How many times one stands above the unit, as a power of two.
-const ONE: u64 = 1074;
+const ONE: u32 = 1074;
 
-pub fn convert(value: Value, to: Kind) -> Result<Value, Refused> {
+pub fn convert(value: Value, to: Kind) -> Answer<Value> {
     if value.kind == to {
         return Ok(value);
     }
@@ -14,12 +17,12 @@ pub fn convert(value: Value, to: Kind) -> Result<Value, Refused> {
         (negative(value), size_of_float(value)?)
     } else {
         let n = integer(value);
-        let size = shifted(n.unsigned_abs() as u64, ONE);
+        let size = Whole::shifted(n.unsigned_abs() as u64, ONE);
         (n < 0, Some(size))
     };
     match (size, to.is_float()) {
         (None, false) => Err((2, 0)),
-        (None, true) => Ok(signed(to, minus, infinity(to))),
+        (None, true) => Ok(signed(to, minus, to.infinity())),
         (Some(size), false) => integer_of(to, minus, size),
         (Some(size), true) => Ok(signed(to, minus, pattern_of(to, size)?)),
     }
@@ -27,7 +30,7 @@ pub fn convert(value: Value, to: Kind) -> Result<Value, Refused> {
 
 /// All of a row that fits its room, or the refusal of its first sample that is
 /// refused.
-pub fn convert_row(row: &[Value], to: Kind, room: usize) -> Result<Vec<Value>, Refused> {
+pub fn row(row: &[Value], to: Kind, room: usize) -> Answer<Row> {
     if row.len() != room {
         return Err((9, 0));
     }
@@ -35,32 +38,31 @@ pub fn convert_row(row: &[Value], to: Kind, room: usize) -> Result<Vec<Value>, R
     for (place, &sample) in row.iter().enumerate() {
         converted.push(convert(sample, to).map_err(|(number, _)| (number, place))?);
     }
-    Ok(converted)
+    Ok(Row(converted))
 }
 
 /// Nothing for an infinity.
-fn size_of_float(value: Value) -> Result<Option<Whole>, Refused> {
-    let (abs, infinity) = (abs(value), infinity(value.kind));
-    if abs > infinity {
-        return Err((1, 0));
+fn size_of_float(value: Value) -> Answer<Option<Whole>> {
+    match abs(value).cmp(&value.kind.infinity()) {
+        Ordering::Greater => Err((1, 0)),
+        Ordering::Equal => Ok(None),
+        Ordering::Less => Ok(Some(in_units(value))),
     }
-    Ok((abs < infinity).then(|| in_units(value)))
 }
 
+/// The scaled number of 1 is two to the power of bias + fraction bits - 1.
 fn in_units(value: Value) -> Whole {
-    match value.kind {
-        Kind::F32 => scaled_by(value, ONE - 149),
-        _ => scaled_by(value, 0),
-    }
+    scaled(value, ONE + 1 - value.kind.bias() - value.kind.fraction())
 }
 
 /// The units of one are 16 limbs and 50 bits.
-fn integer_of(to: Kind, minus: bool, size: Whole) -> Result<Value, Refused> {
-    if size[..16].iter().any(|&limb| limb != 0) || size[16] << 14 != 0 {
+fn integer_of(to: Kind, minus: bool, size: Whole) -> Answer<Value> {
+    let limbs = size.0;
+    if limbs[..16].iter().any(|&limb| limb != 0) || limbs[16] << 14 != 0 {
         return Err((3, 0));
     }
-    let magnitude = size[16] >> 50 | size[17] << 14;
-    if shifted(magnitude, ONE) != size {
+    let magnitude = limbs[16] >> 50 | limbs[17] << 14;
+    if Whole::shifted(magnitude, ONE) != size {
         return Err((4, 0));
     }
     let n = i128::from(magnitude) * if minus { -1 } else { 1 };
@@ -75,20 +77,20 @@ fn integer_of(to: Kind, minus: bool, size: Whole) -> Result<Value, Refused> {
 
 /// The finite pattern whose reading is the number. Sizes rise with the patterns,
 /// so it is found by halving.
-fn pattern_of(to: Kind, size: Whole) -> Result<u64, Refused> {
+fn pattern_of(to: Kind, size: Whole) -> Answer<u64> {
     let read = |pattern| in_units(Value::new(to, pattern));
-    let (mut low, mut end) = (0, infinity(to));
+    let (mut low, mut end) = (0, to.infinity());
     while end - low > 1 {
         let middle = low + (end - low) / 2;
-        if read(middle).iter().rev().le(size.iter().rev()) {
-            low = middle;
-        } else {
+        if read(middle).order(&size) == Ordering::Greater {
             end = middle;
+        } else {
+            low = middle;
         }
     }
     if read(low) == size {
         Ok(low)
-    } else if end == infinity(to) {
+    } else if end == to.infinity() {
         Err((4, 0))
     } else {
         Err((5, 0))

@@ -2,51 +2,54 @@
 
 use std::cmp::Ordering;
 
-use super::{compare, Refused};
-use crate::value::Value;
+use super::order;
+use crate::answer::Answer;
+use crate::value::{Record, Value};
 
-/// The deciding field is beside the order; nothing for Unordered.
-pub fn compare_records(a: &[Value], b: &[Value]) -> Result<(Option<Ordering>, usize), Refused> {
-    if [a.len(), b.len()]
-        .iter()
-        .any(|&count| count == 0 || count > 12)
-    {
-        return Err((11, 0));
+pub fn compare(a: &Record, b: &Record) -> Answer<Option<Ordering>> {
+    Ok(deciding(a, b)?.0)
+}
+
+pub fn min(a: &Record, b: &Record) -> Answer<Record> {
+    let (order, place) = deciding(a, b)?;
+    match order.ok_or((8, place))? {
+        Ordering::Greater => Ok(b.clone()),
+        Ordering::Less | Ordering::Equal => Ok(a.clone()),
     }
+}
+
+pub fn max(a: &Record, b: &Record) -> Answer<Record> {
+    let (order, place) = deciding(a, b)?;
+    match order.ok_or((8, place))? {
+        Ordering::Greater => Ok(a.clone()),
+        Ordering::Less | Ordering::Equal => Ok(b.clone()),
+    }
+}
+
+pub fn check_count(count: usize) -> Answer<()> {
+    match count {
+        1..=12 => Ok(()),
+        _ => Err((11, 0)),
+    }
+}
+
+/// The order, and beside it the field that decides.
+fn deciding(a: &[Value], b: &[Value]) -> Answer<(Option<Ordering>, usize)> {
+    check_count(a.len())?;
+    check_count(b.len())?;
     if a.len() != b.len() || (0..a.len()).any(|place| a[place].kind != b[place].kind) {
         return Err((7, 0));
     }
-    Ok(lexical(a, b, 0))
+    lexical(a, b, 0)
 }
 
 /// From a place on.
-fn lexical(a: &[Value], b: &[Value], place: usize) -> (Option<Ordering>, usize) {
+fn lexical(a: &[Value], b: &[Value], place: usize) -> Answer<(Option<Ordering>, usize)> {
     if place == a.len() {
-        return (Some(Ordering::Equal), place);
+        return Ok((Some(Ordering::Equal), place));
     }
-    match compare(a[place], b[place]) {
+    match order::compare(a[place], b[place])? {
         Some(Ordering::Equal) => lexical(a, b, place + 1),
-        order => (order, place),
+        order => Ok((order, place)),
     }
-}
-
-pub fn min_record<'a>(a: &'a [Value], b: &'a [Value]) -> Result<&'a [Value], Refused> {
-    Ok(if order(a, b)? == Ordering::Greater {
-        b
-    } else {
-        a
-    })
-}
-
-pub fn max_record<'a>(a: &'a [Value], b: &'a [Value]) -> Result<&'a [Value], Refused> {
-    Ok(if order(a, b)? == Ordering::Greater {
-        a
-    } else {
-        b
-    })
-}
-
-fn order(a: &[Value], b: &[Value]) -> Result<Ordering, Refused> {
-    let (order, place) = compare_records(a, b)?;
-    order.ok_or((8, place))
 }

@@ -1,7 +1,7 @@
 //! Operands for the choice between rows of bytes, often equal up to some byte.
 
-use crate::bytes;
 use crate::random::Random;
+use crate::text::bytes_text;
 
 /// Bytes that a row often has: its ends, and where a sign would be.
 const BYTES: [u8; 6] = [0, 1, 0x61, 0x7f, 0x80, 0xff];
@@ -31,7 +31,7 @@ pub fn rows(random: &mut Random) -> String {
         10 => random.pick(&GREAT),
         _ => random.below(20),
     };
-    let mut rows = [first, second].map(|row| bytes::text(&row));
+    let mut rows = [first, second].map(|row| bytes_text(&row));
     if random.one_in(2) {
         rows.reverse();
     }
@@ -60,46 +60,5 @@ fn byte(random: &mut Random) -> u8 {
     match random.one_in(2) {
         true => random.pick(&BYTES),
         false => random.next() as u8,
-    }
-}
-
-#[cfg(test)]
-mod tests {
-    use super::*;
-    use crate::lines;
-
-    #[test]
-    fn all_ways_of_a_choice_occur() {
-        let mut random = Random::new(42);
-        let mut counts = [0; 12];
-        for _ in 0..20_000 {
-            let operands = rows(&mut random);
-            let fields: Vec<&str> = operands.split(' ').collect();
-            let [min, max] = ["prefixmin", "prefixmax"]
-                .map(|word| lines::answer(format!("{word} {operands}").as_bytes()));
-            let k: usize = fields[0].parse().expect("a number");
-            let [a, b] = [fields[1], fields[2]].map(|row| bytes::parse(row.as_bytes()).unwrap());
-            let differ = a != b;
-            let parting = a.iter().zip(&b).position(|(a, b)| a != b);
-            let ways = [
-                differ && min == fields[1] && max == fields[2],
-                differ && min == fields[2] && max == fields[1],
-                // A tie, although the rows differ.
-                differ && parting.is_some_and(|parting| k <= parting),
-                differ && parting.is_some_and(|parting| k == parting + 1),
-                differ && a.starts_with(&b) && k == b.len(),
-                differ && a.starts_with(&b) && k > b.len(),
-                differ && b.starts_with(&a) && k > a.len(),
-                !differ,
-                k == 0,
-                k > 512,
-                a.is_empty() || b.is_empty(),
-                a.len() > 255 || b.len() > 255,
-            ];
-            for (count, way) in counts.iter_mut().zip(ways) {
-                *count += usize::from(way);
-            }
-        }
-        assert!(counts.iter().all(|&count| count > 300), "{counts:?}");
     }
 }
