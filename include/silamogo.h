@@ -90,11 +90,11 @@ typedef struct silamogo_classed {
     uint8_t class_;
 } silamogo_classed;
 
-typedef struct silamogo_placed {
+typedef struct silamogo_positioned {
     uint8_t number;
     size_t place;
     int64_t position;
-} silamogo_placed;
+} silamogo_positioned;
 
 /* kind and bits: the sample that the call gives. */
 typedef struct silamogo_sampled {
@@ -118,7 +118,7 @@ silamogo_classed silamogo_classify(silamogo_sample s);
 
 /* The place of a float in the total order, from the least number of its width to the greatest (RULES: Total order). An integer
  * kind is 7 too, before 4. */
-silamogo_placed silamogo_position(silamogo_sample s);
+silamogo_positioned silamogo_position(silamogo_sample s);
 
 /* IEEE 754 comparison: the two zeros are equal, and a NaN has no order (RULES: Comparison). Refuses two kinds with 7. */
 silamogo_ordered silamogo_compare(silamogo_sample a, silamogo_sample b);

@@ -48,7 +48,7 @@ def _answer(*result):
 _Done = _answer()
 _Ordered = _answer(("order", ctypes.c_uint8))
 _Classed = _answer(("class_", ctypes.c_uint8))
-_Placed = _answer(("position", ctypes.c_int64))
+_Positioned = _answer(("position", ctypes.c_int64))
 _Sampled = _answer(("kind", ctypes.c_uint8), ("bits", ctypes.c_uint64))
 _Measured = _answer(("length", ctypes.c_size_t))
 
@@ -56,7 +56,7 @@ _SLICE = [ctypes.c_void_p, ctypes.c_size_t]
 
 _CALLS = {
     "classify": (_Classed, [_Sample]),
-    "position": (_Placed, [_Sample]),
+    "position": (_Positioned, [_Sample]),
     "compare": (_Ordered, [_Sample] * 2),
     "total_order": (_Ordered, [_Sample] * 2),
     "min": (_Sampled, [_Sample] * 2),

@@ -10,42 +10,32 @@ use lib.ListN.{length, drop, getD, length-map}
 use lib.Seq.{sets, sets-eq}
 use Rattle.value.specs.declared.Kind.{Kind}
 use Rattle.value.specs.declared.Value.{Value}
-use Rattle.value.specs.declared.Value.the-variants.{U8}
-use Rattle.value.specs.Meaning.{bitsOf}
-use Rattle.value.specs.Outcome.{Outcome, gives, refuses, refuseIf, andThen, mapped, Success, done}
-use Rattle.convert.specs.Convert.{convertOf}
+use Rattle.value.specs.Meaning.{valueOf}
+use Rattle.value.specs.Outcome.{Outcome, gives, refuses, refuseIf, andThen, Success, done, lentAfter}
+use Rattle.value.proofs.Outcomes.{refused-unchanged}
 use Rattle.row.specs.Row.{rowAnswer, rowResults, first}
 use Rattle.row.proofs.Scan.{first-all, first-hit}
 use Rattle.row.proofs.Rows.{row-refused, row-done}
 use Rattle.value.specs.Kinds.{bytesOf}
-use Rattle.block.specs.Samples.{countOf, leftOf, samplesOf, bytesFor}
-use Rattle.block.specs.Migrate.{bitsTo, outputOf, placedFrom, blockAnswer, bufferAfter, blockExit, stepSamples, stepAnswer, stepExit}
-use Rattle.block.specs.Steps.{isRefused, numberIn, bitsIn, refusedTo, bitsFor}
-use Rattle.block.proofs.Samplings.{room-inside, length-samples, length-bytes}
+use Rattle.sample.specs.Samples.{countOf, leftOf, samplesOf, sampleAt}
+use Rattle.sample.specs.Refusals.{bitsTo, isRefused, refusalNumber, refusedTo}
+use Rattle.sample.proofs.Samplings.{length-samples}
+use Rattle.block.specs.Output.{bytesFor}
+use Rattle.block.specs.Migrate.{outputOf, placedFrom, blockAnswer, stepSamples, stepAnswer, stepExit}
+use Rattle.block.specs.Inner.{blockExit, givenBits, movedBits}
+use Rattle.block.proofs.Samplings.{room-inside, length-bytes}
 
 -- ---- one sample
 
-pub sample-given : (to : Kind) (v : Value) {w : Value} → gives w ≡ convertOf v to → bitsTo to v ≡ gives (bitsOf w)
-unfolding bitsTo
-sample-given to v q = ap (mapped bitsOf) (sym q)
-
-pub sample-refused : (to : Kind) (v : Value) {m p : ℕ} → refuses m p ≡ convertOf v to → bitsTo to v ≡ refuses m p
-unfolding bitsTo
-sample-refused to v q = ap (mapped bitsOf) (sym q)
-
-given-bits : (o : Outcome ℕ) → isRefused o ≡ false → o ≡ gives (bitsIn o)
+given-bits : (o : Outcome ℕ) → isRefused o ≡ false → o ≡ gives (givenBits o)
 given-bits (gives b) h = refl
 given-bits (refuses m p) h = absurd (true≢false h)
 
-refused-number : (o : Outcome ℕ) → isRefused o ≡ true → (p : ℕ) × (o ≡ refuses (numberIn o) p)
+refused-number : (o : Outcome ℕ) → isRefused o ≡ true → (p : ℕ) × (o ≡ refuses (refusalNumber o) p)
 refused-number (gives b) h = absurd (true≢false (sym h))
 refused-number (refuses m p) h = (p, refl)
 
 -- ---- a block
-
--- what a refusal leaves
-kept : (output old : List ℕ) {m p : ℕ} {o : Outcome Success} → refuses m p ≡ o → old ≡ bufferAfter o output old
-kept output old q = ap (λ o. bufferAfter o output old) q
 
 pub past-room : (from to : Kind) (src : List ℕ) (room : ℕ) → countOf from src ≤ room / bytesOf to → blockAnswer from to src room ≡ rowAnswer (bitsTo to) 0 (samplesOf from src)
 unfolding blockAnswer
@@ -60,7 +50,7 @@ module _ (from to : Kind) (src old : List ℕ) where
 
   pub block-refused : {m p : ℕ} → refuses m p ≡ blockAnswer from to src (length old) → BlockAnswers (refuses m p) old
   unfolding blockExit
-  block-refused q = (q, kept (outputOf from to src) old q)
+  block-refused q = (q, sym (refused-unchanged (λ (d : Success). outputOf from to src) old (sym q)))
 
   no-room : length old / bytesOf to < countOf from src → refuses 9 0 ≡ blockAnswer from to src (length old)
   unfolding blockAnswer
@@ -77,8 +67,11 @@ module _ (from to : Kind) (src old : List ℕ) where
       let out = bytesFor to rs in
       let size : length out ≡ countOf from src * bytesOf to = length-bytes to rs ∙ ap (λ (m : ℕ). m * bytesOf to) many in
       let fits : 0 + length out ≤ length old = rw (zero-add (length out), size) (room-inside to room) in
-      let laid : now ≡ out ++ drop (length out) old = q ∙ sets-eq out old 0 fits ∙ ap (λ (m : ℕ). out ++ drop m old) (zero-add (length out)) in
-      (o, laid ∙ ap (λ (l : List ℕ). l ++ drop (length l) old) (ap (bytesFor to) (sym r)) ∙ ap (λ a. bufferAfter a (bytesFor to (rowResults (bitsTo to) samples)) old) o)
+      let laid : now ≡ out ++ drop (length out) old = q ∙ sets-eq out old 0 fits ∙ ap (λ (m : ℕ). out ++ drop m old) (zero-add (length out)) in (
+        o,
+        laid ∙ ap (λ (l : List ℕ). l ++ drop (length l) old) (ap (bytesFor to) (sym r))
+            ∙ ap (λ a. lentAfter (λ (d : Success). bytesFor to (rowResults (bitsTo to) samples)) a old) o,
+      )
 
   module _ (room : countOf from src ≤ length old / bytesOf to) (i : ℕ) (i-is : i ≡ first (refusedTo to) samples) where
     passed : blockAnswer from to src (length old) ≡ rowAnswer (bitsTo to) 0 samples
@@ -87,32 +80,33 @@ module _ (from to : Kind) (src old : List ℕ) where
     count-is : length samples ≡ countOf from src
     count-is = length-samples from (countOf from src) src
 
-    pub block-bad : i < countOf from src → {m : ℕ} → m ≡ numberIn (bitsTo to (getD samples i (U8 0))) → BlockAnswers (refuses m i) old
+    pub block-bad : i < countOf from src → {m : ℕ} → m ≡ refusalNumber (bitsTo to (sampleAt from src i)) → BlockAnswers (refuses m i) old
     block-bad h {m} q =
         let l : i < length samples = omega (arith, count-is) in
-        let hit = first-hit (refusedTo to) samples i (U8 0) i-is l in
-        let bad = refused-number (bitsTo to (getD samples i (U8 0))) hit in
-        let at : bitsTo to (getD samples (first (refusedTo to) samples) (U8 0)) ≡ refuses m (bad .0) =
-        ap (λ (j : ℕ). bitsTo to (getD samples j (U8 0))) (sym i-is) ∙ bad .1 ∙ ap (λ (k : ℕ). refuses k (bad .0)) (sym q) in
-        let r = row-refused (bitsTo to) (refusedTo to) (bitsFor to) (λ v. Unit {0}) (U8 0) (λ v u t. given-bits (bitsTo to v) t) m (bad .0) 0 samples (λ j k. tt) (omega arith) at in
+        let hit = first-hit (refusedTo to) samples i (valueOf from 0) i-is l in
+        let bad = refused-number (bitsTo to (getD samples i (valueOf from 0))) hit in
+        let at : bitsTo to (getD samples (first (refusedTo to) samples) (valueOf from 0)) ≡ refuses m (bad .0) =
+        ap (λ (j : ℕ). bitsTo to (getD samples j (valueOf from 0))) (sym i-is) ∙ bad .1 ∙ ap (λ (k : ℕ). refuses k (bad .0)) (sym q) in
+        let r = row-refused (bitsTo to) (refusedTo to) (movedBits to) (λ v. Unit {0}) (valueOf from 0) (λ v u t. given-bits (bitsTo to v) t) m (bad .0) 0 samples (λ j k. tt) (omega arith) at in
         block-refused (sym (passed ∙ r ∙ ap (λ (j : ℕ). refuses m j) (zero-add (first (refusedTo to) samples) ∙ sym i-is)))
 
-    pub block-done : countOf from src ≤ i → {now : List ℕ} → now ≡ sets old 0 (bytesFor to (map (bitsFor to) samples)) → BlockAnswers (gives done) now
+    pub block-done : countOf from src ≤ i → {now : List ℕ} → now ≡ sets old 0 (bytesFor to (map (movedBits to) samples)) → BlockAnswers (gives done) now
     block-done h {now} q =
         let all = first-all (refusedTo to) samples i i-is (omega (arith, count-is)) in
-        let r = row-done (bitsTo to) (refusedTo to) (bitsFor to) (λ v. Unit {0}) (U8 0) (λ v u t. given-bits (bitsTo to v) t) 0 samples (λ j k. tt) all in
-        block-output (map (bitsFor to) samples) room (sym (passed ∙ r .0)) (r .1) (length-map samples (bitsFor to) ∙ count-is) q
+        let r = row-done (bitsTo to) (refusedTo to) (movedBits to) (λ v. Unit {0}) (valueOf from 0) (λ v u t. given-bits (bitsTo to v) t) 0 samples (λ j k. tt) all in
+        block-output (map (movedBits to) samples) room (sym (passed ∙ r .0)) (r .1) (length-map samples (movedBits to) ∙ count-is) q
 
--- both counts by the numbers of bytes that the code asked for
-pub shorter : (l m : ℕ) {u v x y : ℕ} → u ≡ x → v ≡ y → l / v < m / u → l / y < m / x
-shorter l m p q h = rw (← p, ← q) h
+-- the counts that the code asked for
+pub shorter : (l : ℕ) {m n v y : ℕ} → m ≡ n → v ≡ y → l / v < m → l / y < n
+shorter l p q h = rw (← p, ← q) h
 
 pub enough : (l n : ℕ) {v y : ℕ} → v ≡ y → n ≤ l / v → n ≤ l / y
 enough l n q h = rw (← q) h
 
 -- ---- a step
 
-same-left : (n : ℕ) (o : Outcome Success) (output old : List ℕ) → bufferAfter (placedFrom n o) output old ≡ bufferAfter o output old
+same-left : (n : ℕ) (o : Outcome Success) (output old : List ℕ)
+    → lentAfter (λ (d : Success). output) (placedFrom n o) old ≡ lentAfter (λ (d : Success). output) o old
 same-left n (gives d) output old = refl
 same-left n (refuses m p) output old = refl
 
@@ -135,7 +129,7 @@ module _ (from to : Kind) (before : ℕ) (answer : Outcome Success) (src old : L
 
   step-refused : {m p : ℕ} → refuses m p ≡ stepAnswer from to before answer src (length old) → StepAnswers (refuses m p) old
   unfolding stepExit
-  step-refused q = (q, kept (outputOf from to src) old q)
+  step-refused q = (q, sym (refused-unchanged (λ (d : Success). outputOf from to src) old (sym q)))
 
   pub step-left : (leftOf from src ≡ 0 → ⊥) → StepAnswers (refuses 9 (stepSamples from before src)) old
   step-left h = step-refused (left-over from to before answer src (length old) h)
@@ -154,5 +148,9 @@ module _ (from to : Kind) (before : ℕ) (answer : Outcome Success) (src old : L
     unfolding stepExit blockExit
     step-block e {b} {o} {now} w q =
         let a : o ≡ stepAnswer from to before answer src (length old) = q ∙ ap (placedFrom before) (w .0) ∙ sym (passed-left ∙ ap (λ a. andThen a (λ d. placedFrom before (blockAnswer from to src (length old)))) e) in
-        let p : placedFrom before (blockAnswer from to src (length old)) ≡ stepAnswer from to before answer src (length old) = ap (placedFrom before) (sym (w .0)) ∙ sym q ∙ a in
-        (a, w .1 ∙ sym (same-left before (blockAnswer from to src (length old)) (outputOf from to src) old) ∙ ap (λ r. bufferAfter r (outputOf from to src) old) p)
+        let p : placedFrom before (blockAnswer from to src (length old)) ≡ stepAnswer from to before answer src (length old) =
+        ap (placedFrom before) (sym (w .0)) ∙ sym q ∙ a in (
+          a,
+          w .1 ∙ sym (same-left before (blockAnswer from to src (length old)) (outputOf from to src) old)
+              ∙ ap (λ r. lentAfter (λ (d : Success). outputOf from to src) r old) p,
+        )

@@ -1,18 +1,18 @@
--- Strings of bytes joined where whole samples end: counts add up, samples and outputs are joined, and the first refusal stays the first.
+-- Strings of bytes joined where whole samples end: outputs are joined, and the first refusal stays the first.
 use mathlib.Core.Path.{_≡_, refl, sym, _∙_, ap}
 use mathlib.Core.List.{List, [], _∷_, _++_}
-use Prim.Native.Nat.{ℕ, zero, suc, _+_, _*_, _/_, _%_, _^_, _≤_, _<_}
-use native.Mathlib.Nat.{zero-add, add-zero, add-comm, suc-add, add-suc, suc-mul, zero-mul, div-add-mod', add-mul-div-right, add-mul-mod-self-right, mod-eq-of-lt}
+use Prim.Native.Nat.{ℕ, suc, _+_, _^_, _<_}
+use native.Mathlib.Nat.{add-zero, add-suc, mod-eq-of-lt}
 use native.Mathlib.Omega.{arith}
-use lib.ListN.{length, drop, length-append, length-drop}
-use lib.Seq.{take-append-le, drop-append-le}
+use lib.ListN.{length}
 use Rattle.value.specs.declared.Kind.{Kind}
 use Rattle.value.specs.Outcome.{Outcome, gives, refuses, andThen, Success}
 use Rattle.row.specs.Row.{rowAnswer, rowResults, sampleThen, sampleBefore}
-use Rattle.value.specs.Kinds.{bytesOf}
-use Rattle.block.specs.Samples.{countOf, leftOf, samplesIn, samplesOf, bytesFor}
-use Rattle.block.specs.Migrate.{bitsTo, outputOf, placedFrom}
-use Rattle.value.proofs.Widths.{bytes-range}
+use Rattle.sample.specs.Samples.{leftOf, samplesOf}
+use Rattle.sample.specs.Refusals.{bitsTo}
+use Rattle.sample.proofs.Joining.{samples-of-joined}
+use Rattle.block.specs.Output.{bytesFor}
+use Rattle.block.specs.Migrate.{outputOf, placedFrom}
 use Rattle.block.proofs.Samplings.{bytes-append}
 
 -- ---- rows joined
@@ -51,36 +51,6 @@ module _ {A B : Type 0} (conv : A → Outcome B) where
       ap (λ (k : ℕ). sampleThen (n + at) (conv y) (rowAnswer conv k ys)) (sym (add-suc n at))
       ∙ ap (sampleThen (n + at) (conv y)) (answer-placed n (suc at) ys (omega arith))
       ∙ sample-placed n at (conv y) (rowAnswer conv (suc at) ys) (omega arith)
-
--- ---- bytes joined
-
-module _ (k : Kind) where
-  samples-joined : (n m : ℕ) (p b : List ℕ) → length p ≡ n * bytesOf k → samplesIn k (n + m) (p ++ b) ≡ samplesIn k n p ++ samplesIn k m b
-  unfolding samplesIn
-  samples-joined zero m [] b h = rw (zero-add m) refl
-  samples-joined zero m (x ∷ p) b h = absurd (omega (arith, h, zero-mul (bytesOf k)))
-  samples-joined (suc n) m p b h =
-      let w = bytesOf k in
-      let l : length p ≡ n * w + w = h ∙ suc-mul n w in
-      let inside : w ≤ length p = omega (arith, l) in
-      let rest : length (drop w p) ≡ n * w = length-drop w p ∙ omega (arith, l) in
-      rw (suc-add n m, take-append-le w p b inside, drop-append-le w p b inside, samples-joined n m (drop w p) b rest) refl
-
-  module _ (p b : List ℕ) (whole : leftOf k p ≡ 0) where
-    whole-length : length p ≡ countOf k p * bytesOf k
-    whole-length = sym (div-add-mod' (length p) (bytesOf k)) ∙ ap (λ (r : ℕ). countOf k p * bytesOf k + r) whole ∙ add-zero (countOf k p * bytesOf k)
-
-    joined-length : length (p ++ b) ≡ length b + countOf k p * bytesOf k
-    joined-length = length-append p b ∙ add-comm (length p) (length b) ∙ ap (λ (n : ℕ). length b + n) whole-length
-
-    pub count-joined : countOf k (p ++ b) ≡ countOf k p + countOf k b
-    count-joined = ap (λ (n : ℕ). n / bytesOf k) joined-length ∙ add-mul-div-right (length b) (countOf k p) (bytes-range k .0) ∙ add-comm (countOf k b) (countOf k p)
-
-    pub left-joined : leftOf k (p ++ b) ≡ leftOf k b
-    left-joined = ap (λ (n : ℕ). n % bytesOf k) joined-length ∙ add-mul-mod-self-right (length b) (countOf k p) (bytesOf k)
-
-    pub samples-of-joined : samplesOf k (p ++ b) ≡ samplesOf k p ++ samplesOf k b
-    samples-of-joined = ap (λ (n : ℕ). samplesIn k n (p ++ b)) count-joined ∙ samples-joined (countOf k p) (countOf k b) p b whole-length
 
 pub output-joined : (from to : Kind) (p b : List ℕ) → leftOf from p ≡ 0 → outputOf from to (p ++ b) ≡ outputOf from to p ++ outputOf from to b
 unfolding outputOf

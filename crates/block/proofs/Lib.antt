@@ -1,4 +1,4 @@
-pub mod LittleEndian
+pub mod Laying
 pub mod Samplings
 pub mod Pieces
 pub mod Blocks
@@ -6,6 +6,3 @@ pub mod Rowing
 pub mod Pairs
 pub mod Joining
 pub mod Whole
-pub mod Looking
-pub mod Best
-pub mod Looked

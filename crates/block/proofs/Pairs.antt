@@ -21,19 +21,24 @@ use Rattle.value.proofs.FloatBits.{bits-pattern}
 use Rattle.convert.specs.Convert.{convertOf, madeIn}
 use Rattle.convert.proofs.Exactly.{complete}
 use Rattle.float.proofs.Tests.{neither, clash}
-use Rattle.row.specs.Row.{any, rowResults, rowExit, sampleBefore}
-use Rattle.row.specs.Convert.{u8ToU16, u16ToU8, u16ToF32, f32ToU16, asF32, convertAnswer, convertExit}
+use Rattle.value.proofs.Outcomes.{refused-unchanged}
+use Rattle.row.specs.Row.{any, rowResults, sampleBefore}
+use Rattle.row.specs.Convert.{u8ToU16, u16ToU8, u16ToF32, f32ToU16, convertAnswer, convertExit}
+use Rattle.row.specs.Inner.{asF32}
 use Rattle.row.proofs.ConvertRow.{always-done}
 use Rattle.row.proofs.F32Sample.{bits-are, any-word}
 use Rattle.row.proofs.IntoUnsigned.{u8-wider, narrow-small}
 use Rattle.row.proofs.IntoF32.{cast-value, encoded, same-number, u16-float}
 use Rattle.value.specs.Kinds.{bytesOf}
-use Rattle.block.specs.Samples.{littleEndian, numberFrom, countOf, samplesOf, bytesFor}
-use Rattle.block.specs.Migrate.{bitsTo}
-use Rattle.block.specs.Steps.{numbersIn, plainBits, floatedBits}
-use Rattle.block.proofs.Samplings.{length-numbers}
+use Rattle.bytewise.specs.Numbers.{fromLittleEndian}
+use Rattle.sample.specs.Samples.{countOf, samplesOf, numbersIn}
+use Rattle.sample.specs.Refusals.{bitsTo}
+use Rattle.sample.proofs.Samplings.{length-numbers}
+use Rattle.bytewise.specs.Numbers.{littleEndian}
+use Rattle.block.specs.Output.{bytesFor}
+use Rattle.block.specs.Inner.{plainBits, floatedBits}
 use Rattle.block.proofs.Blocks.{BlockAnswers}
-use Rattle.block.proofs.Rowing.{map-same, map-both, Agree, results-length, row-is, row-gives, row-refuses, row-always, numbers-small, agree-by}
+use Rattle.block.proofs.Rowing.{map-same, map-both, Agree, results-length, row-is, left-is, row-gives, row-refuses, row-always, numbers-small, agree-by}
 
 -- ---- one sample
 
@@ -81,7 +86,7 @@ pub widened-row : (xs ys : List ℕ) → length xs ≡ length ys → ((i : ℕ) 
 widened-row xs ys same all = sym (always-done u8ToU16 xs ys (λ n. n) (λ n. n < 2 ^ 8) 0 u8-wider same all (map (λ (n : ℕ). n) xs) refl .1)
 
 numbers-one : (src : List ℕ) → numbersIn 1 (length src) src ≡ src
-unfolding numbersIn numberFrom
+unfolding numbersIn fromLittleEndian
 numbers-one [] = refl
 numbers-one (x ∷ xs) = rw (zero-add x, numbers-one xs) refl
 
@@ -158,12 +163,12 @@ module _ (src old row : List ℕ) (row-has : row ≡ numbersIn 2 (countOf kind.U
   pub narrowed-block : (o : Outcome Success) {zs : List ℕ} → o ≡ convertAnswer u16ToU8 row front → zs ≡ convertExit u16ToU8 row front → BlockAnswers kind.U16 kind.U8 src old o (zs ++ drop (length row) old)
   unfolding convertExit
   narrowed-block (gives done) {zs} q z =
-      let left : zs ≡ rowResults u16ToU8 row = z ∙ ap (λ a. rowExit a (rowResults u16ToU8 row) front) (sym q) in
+      let left : zs ≡ rowResults u16ToU8 row = z ∙ left-is kind.U16 kind.U8 src old inside u16ToU8 (λ n. n) row front 0 (greys .0) same-front (greys .1) q in
       let size : length zs ≡ length row = ap length left ∙ results-length u16ToU8 0 row (sym (q ∙ row-is kind.U16 kind.U8 src old inside u16ToU8 (λ n. n) row front 0 (greys .0) same-front (greys .1))) in
       let plain : bytesFor kind.U8 (map (λ (n : ℕ). n) zs) ≡ zs = ap (bytesFor kind.U8) (map-same zs ∙ left) ∙ results-bytes u16ToU8 narrow-small row ∙ sym left in
       row-gives kind.U16 kind.U8 src old inside u16ToU8 (λ n. n) row front 0 (greys .0) same-front (greys .1) q z (sym (ap (sets old 0) plain ∙ front-set zs old (length row) size room))
   narrowed-block (refuses m p) {zs} q z =
-      let left : zs ≡ front = z ∙ ap (λ a. rowExit a (rowResults u16ToU8 row) front) (sym q) in
+      let left : zs ≡ front = z ∙ refused-unchanged (λ (d : Success). rowResults u16ToU8 row) front (sym q) in
       let r = row-refuses kind.U16 kind.U8 src old inside u16ToU8 (λ n. n) row front 0 (greys .0) same-front (greys .1) q in
       (r .0, ap (λ (l : List ℕ). l ++ drop (length row) old) left ∙ take-append-drop (length row) old ∙ r .1)
 

@@ -13,15 +13,17 @@ use Rattle.value.specs.declared.Kind.{Kind}
 use Rattle.value.specs.declared.Value.the-variants.{U8}
 use Rattle.value.specs.Meaning.{valueOf}
 use Rattle.value.specs.Outcome.{Outcome, gives, refuses, refuseIf, mapped, Success, done}
-use Rattle.row.specs.Row.{rowAnswer, rowResults, rowExit, sampleThen, sampleBefore}
+use Rattle.value.proofs.Outcomes.{given-fills}
+use Rattle.row.specs.Row.{rowAnswer, rowResults, sampleThen, sampleBefore}
 use Rattle.row.specs.Convert.{convertAnswer, convertExit}
 use Rattle.row.proofs.ConvertRow.{always-done}
 use Rattle.value.specs.Kinds.{bytesOf}
-use Rattle.block.specs.Samples.{countOf, samplesOf, bytesFor}
-use Rattle.block.specs.Migrate.{bitsTo, blockAnswer}
-use Rattle.block.specs.Steps.{numbersIn}
-use Rattle.block.proofs.LittleEndian.{number-below}
-use Rattle.block.proofs.Samplings.{length-samples, sample-here, length-numbers, number-here}
+use Rattle.sample.specs.Samples.{countOf, samplesOf, numbersIn}
+use Rattle.sample.specs.Refusals.{bitsTo}
+use Rattle.bytewise.proofs.LittleEndian.{number-below}
+use Rattle.sample.proofs.Samplings.{length-samples, sample-here, length-numbers, number-here}
+use Rattle.block.specs.Output.{bytesFor}
+use Rattle.block.specs.Migrate.{blockAnswer}
 use Rattle.block.proofs.Blocks.{BlockAnswers, past-room, block-refused, block-output}
 
 pub map-same : (l : List ℕ) → map (λ (n : ℕ). n) l ≡ l
@@ -84,9 +86,9 @@ module _ (from to : Kind) (src old : List ℕ) (room : countOf from src ≤ leng
   pub row-refuses : {m p : ℕ} → refuses m p ≡ convertAnswer conv xs ys → BlockAnswers from to src old (refuses m p) old
   row-refuses q = block-refused from to src old (answer-is q)
 
-  left-is : gives done ≡ convertAnswer conv xs ys → convertExit conv xs ys ≡ rowResults conv xs
+  pub left-is : gives done ≡ convertAnswer conv xs ys → convertExit conv xs ys ≡ rowResults conv xs
   unfolding convertExit
-  left-is q = ap (λ a. rowExit a (rowResults conv xs) ys) (sym q)
+  left-is q = given-fills (λ (d : Success). rowResults conv xs) ys (sym q) (results-length conv 0 xs (sym row-is ∙ sym q) ∙ same)
 
   pub row-gives : gives done ≡ convertAnswer conv xs ys → {zs : List B} → zs ≡ convertExit conv xs ys → {now : List ℕ} → now ≡ sets old 0 (bytesFor to (map enc zs)) → BlockAnswers from to src old (gives done) now
   row-gives q {zs} z {now} w =

@@ -4,7 +4,7 @@ use mathlib.Core.Bool.{Bool, not}
 use mathlib.Core.Logic.{inl, inr}
 use mathlib.Core.List.{List, [], _++_, append-assoc, append-nil}
 use Prim.Native.Nat.{ℕ, _+_, _/_, _^_, _≤_, _<_}
-use native.Mathlib.Nat.{add-zero, zero-add, zero-div, zero-mod, div-le-self, mod-eq-of-lt, lt-of-le-of-lt}
+use native.Mathlib.Nat.{add-zero, zero-add, zero-div, zero-mod, mod-eq-of-lt}
 use native.Mathlib.Omega.{arith}
 use borrow.Author.Tests.{eq-eqb, ne-eqb}
 use lib.ListN.{length, length-append}
@@ -14,12 +14,15 @@ use Rattle.value.specs.declared.Kind.{Kind}
 use Rattle.value.specs.Outcome.{Outcome, gives, refuses, refuseIf, andThen, mapped, Success, done}
 use Rattle.row.specs.Row.{rowAnswer, rowResults}
 use Rattle.value.specs.Kinds.{bytesOf}
-use Rattle.block.specs.Samples.{countOf, leftOf, samplesIn, samplesOf, bytesFor}
-use Rattle.block.specs.Migrate.{bitsTo, answerOf, outputOf, migrateOf, counted, placedFrom, blockAnswer, stepSamples, stepAnswer}
-use Rattle.block.specs.Theorem.{joined, Blocks, none, last, more, Reached, writtenBy, stepped, runOf, begun, BlocksDecide}
-use Rattle.block.proofs.Samplings.{length-samples}
+use Rattle.sample.specs.Samples.{countOf, leftOf, samplesOf, counted, joined}
+use Rattle.sample.specs.Refusals.{bitsTo, answerOf}
+use Rattle.sample.proofs.Samplings.{length-samples}
+use Rattle.sample.proofs.Joining.{count-joined, left-joined, samples-of-joined, small, no-samples}
+use Rattle.block.specs.Output.{bytesFor}
+use Rattle.block.specs.Migrate.{outputOf, migrateOf, placedFrom, blockAnswer, stepSamples, stepAnswer}
+use Rattle.block.specs.Theorem.{Blocks, none, last, more, Reached, writtenBy, stepped, runOf, begun, BlocksDecide}
 use Rattle.block.proofs.Blocks.{past-room, left-over, past-left}
-use Rattle.block.proofs.Joining.{answer-joined, answer-placed, count-joined, left-joined, samples-of-joined, output-joined}
+use Rattle.block.proofs.Joining.{answer-joined, answer-placed, output-joined}
 
 -- what a result was put together from
 given-before : (o : Outcome Success) (f : Success → Outcome Success) → andThen o f ≡ gives done → o ≡ gives done
@@ -40,23 +43,19 @@ module _ (from to : Kind) (room : ℕ) where
   abbrev Decides : Reached → List ℕ → Type 0
   Decides r p = (r .samples ≡ countOf from p) × (mapped (λ d. r .output) (r .answer) ≡ migrateOf from to p)
 
-  -- no more samples than bytes
-  pub small : (p : List ℕ) → length p < 2 ^ 64 → countOf from p < 2 ^ 64
-  small p h = lt-of-le-of-lt (div-le-self (length p) (bytesOf from)) h
-
   module _ (r : Reached) (p b : List ℕ) (st : Stands r p) (short : length (p ++ b) < 2 ^ 64) where
     sum-count : r .samples + countOf from b ≡ countOf from (p ++ b)
     sum-count = ap (λ (n : ℕ). n + countOf from b) (st .count) ∙ sym (count-joined from p b (st .whole))
 
     step-counted : stepSamples from (r .samples) b ≡ countOf from (p ++ b)
     unfolding stepSamples
-    step-counted = ap counted sum-count ∙ mod-eq-of-lt (small (p ++ b) short)
+    step-counted = ap counted sum-count ∙ mod-eq-of-lt (small from (p ++ b) short)
 
     module _ (fits : countOf from b ≤ room / bytesOf to) (ends : leftOf from b ≡ 0) where
       placed : placedFrom (r .samples) (blockAnswer from to b room) ≡ rowAnswer (bitsTo to) (0 + length (samplesOf from p)) (samplesOf from b)
       placed =
           let n : r .samples + 0 ≡ 0 + length (samplesOf from p) = add-zero (r .samples) ∙ st .count ∙ sym (zero-add (length (samplesOf from p)) ∙ length-samples from (countOf from p) p) in
-          let few : r .samples + 0 + length (samplesOf from b) < 2 ^ 64 = rw (add-zero (r .samples), length-samples from (countOf from b) b, sum-count) (small (p ++ b) short) in
+          let few : r .samples + 0 + length (samplesOf from b) < 2 ^ 64 = rw (add-zero (r .samples), length-samples from (countOf from b) b, sum-count) (small from (p ++ b) short) in
           ap (placedFrom (r .samples)) (past-room from to b room fits)
           ∙ sym (answer-placed (bitsTo to) (r .samples) 0 (samplesOf from b) few)
           ∙ ap (λ (k : ℕ). rowAnswer (bitsTo to) k (samplesOf from b)) n
@@ -127,17 +126,13 @@ module _ (from to : Kind) (room : ℕ) where
       subst (Decides (runOf from to room (stepped from to room r b) bs)) e
       (run-decides rest (stepped from to room r b) (p ++ b) (step-stands r p b st (shorter (p ++ b) (joined bs) short) fits ends) short)
 
-  pub no-samples : samplesOf from [] ≡ []
-  unfolding samplesIn
-  no-samples = ap (λ (n : ℕ). samplesIn from n []) (zero-div (bytesOf from))
-
   begun-decided : gives done ≡ rowAnswer (bitsTo to) 0 (samplesOf from [])
   unfolding rowAnswer
-  begun-decided = sym (ap (rowAnswer (bitsTo to) 0) no-samples)
+  begun-decided = sym (ap (rowAnswer (bitsTo to) 0) (no-samples from))
 
   begun-laid : [] ≡ outputOf from to []
   unfolding outputOf rowResults bytesFor
-  begun-laid = sym (ap (λ s. bytesFor to (rowResults (bitsTo to) s)) no-samples)
+  begun-laid = sym (ap (λ s. bytesFor to (rowResults (bitsTo to) s)) (no-samples from))
 
   begun-stands : Stands begun []
   begun-stands = record {

@@ -6,13 +6,8 @@ use lib.ListN.{length}
 use Rattle.value.specs.declared.Kind.{Kind}
 use Rattle.value.specs.Outcome.{Outcome, gives, refuses, mapped, Success, done}
 use Rattle.value.specs.Kinds.{bytesOf}
-use Rattle.block.specs.Samples.{countOf, leftOf}
+use Rattle.sample.specs.Samples.{countOf, leftOf, joined}
 use Rattle.block.specs.Migrate.{outputOf, migrateOf, stepSamples, stepAnswer}
-
--- the whole input
-abbrev pub joined : List (List ℕ) → List ℕ
-joined [] = []
-joined (b ∷ bs) = b ++ joined bs
 
 -- every block but the last has whole samples only, and a buffer of `room` bytes has room for each
 pub data Blocks (from to : Kind) (room : ℕ) : List (List ℕ) → Type 0 where

@@ -7,8 +7,9 @@ ghost use lib.Seq.{sets};
 ghost use lib.Ieee.{binary32, isNan, ofBits};
 ghost use mathlib.Core.Bool.{false};
 ghost use Rattle.row.specs.Row.{any};
-ghost use Rattle.block.specs.Samples.{bytesFor};
-ghost use Rattle.block.specs.Steps.{numbersIn, plainBits};
+ghost use Rattle.sample.specs.Samples.{numbersIn};
+ghost use Rattle.block.specs.Output.{bytesFor};
+ghost use Rattle.block.specs.Inner.{plainBits};
 use value::Kind;
 
 fn pair(low: u8, high: u8) -> u16

@@ -8,9 +8,11 @@ ghost use lib.ListN.{length};
 ghost use lib.Seq.{sets};
 ghost use Rattle.row.specs.Row.{rowedOutcome};
 ghost use Rattle.value.specs.Kinds.{bytesOf};
-ghost use Rattle.block.specs.Samples.{countOf, bytesFor};
-ghost use Rattle.block.specs.Migrate.{blockAnswer, blockExit};
-ghost use Rattle.block.specs.Steps.{rowPlaces, numbersIn, floatedBits};
+ghost use Rattle.sample.specs.Samples.{countOf, numbersIn};
+ghost use Rattle.block.specs.Output.{bytesFor};
+ghost use Rattle.block.specs.Migrate.{blockAnswer};
+ghost use Rattle.block.specs.Inner.{blockExit, floatedBits};
+ghost use Rattle.block.specs.Migrate.{rowPlaces};
 use crate::ROW_PLACES;
 use crate::layouts::load_f32s;
 use crate::layouts::load_u16s;
@@ -71,7 +73,8 @@ pub(crate) fn widened(src: &[u8], dst: &mut [u8]) -> Rowed
 // u16 to f32 by two rows that have a place for each sample; their bytes from a place on.
 fn float_row(src: &[u8], wide: &mut [u16], reals: &mut [f32], dst: &mut [u8], at: usize)
     requires { ⌜ (2 * length (now wide) ≤ length (now src)) × (length (now wide) ≡ length (now reals)) × (at + 4 * length (now wide) ≤ length (now dst)) ⌝ }
-    ensures { λ _. ⌜ now (dst .exit) ≡ sets (now (dst .entry)) at (bytesFor Kind.F32 (map floatedBits (numbersIn 2 (length (now (wide .entry))) (now (src .entry))))) ⌝ }
+    ensures { λ _. ⌜ now (dst .exit)
+        ≡ sets (now (dst .entry)) at (bytesFor Kind.F32 (map floatedBits (numbersIn 2 (length (now (wide .entry))) (now (src .entry))))) ⌝ }
 {
     load_u16s(src, wide);
     row::u16_to_f32(wide, reals);
@@ -80,7 +83,8 @@ fn float_row(src: &[u8], wide: &mut [u16], reals: &mut [f32], dst: &mut [u8], at
 
 // As with u8: rows of 16 samples, and the samples behind them.
 fn float_full(src: &[u8], samples: usize, wide: &mut [u16], reals: &mut [f32], dst: &mut [u8])
-    requires { ⌜ (samples % 16 ≡ 0) × (length (now wide) ≡ 16) × (length (now reals) ≡ 16) × (2 * samples ≤ length (now src)) × (4 * samples ≤ length (now dst)) ⌝ }
+    requires { ⌜ (samples % 16 ≡ 0) × (length (now wide) ≡ 16) × (length (now reals) ≡ 16)
+        × (2 * samples ≤ length (now src)) × (4 * samples ≤ length (now dst)) ⌝ }
     ensures { λ _. ⌜ now (dst .exit) ≡ sets (now (dst .entry)) 0 (bytesFor Kind.F32 (map floatedBits (numbersIn 2 samples (now (src .entry))))) ⌝ }
 {
     let mut i = 0;
@@ -140,7 +144,8 @@ pub(crate) fn narrowed(src: &[u8], n: usize, dst: &mut [u8]) -> Rowed
 
 // f32 to u16, by way of two rows that have a place for each sample.
 fn whole_row(src: &[u8], reals: &mut [f32], wide: &mut [u16], dst: &mut [u8]) -> Rowed
-    requires { ⌜ (length (now reals) ≡ countOf Kind.F32 (now src)) × (length (now reals) ≡ length (now wide)) × (length (now reals) ≤ length (now dst) / bytesOf Kind.U16) ⌝ }
+    requires { ⌜ (length (now reals) ≡ countOf Kind.F32 (now src)) × (length (now reals) ≡ length (now wide))
+        × (length (now reals) ≤ length (now dst) / bytesOf Kind.U16) ⌝ }
     ensures answer { λ r. ⌜ rowedOutcome r ≡ blockAnswer Kind.F32 Kind.U16 (now (src .entry)) (length (now (dst .entry))) ⌝ }
     ensures exit { λ _. ⌜ now (dst .exit) ≡ blockExit Kind.F32 Kind.U16 (now (src .entry)) (now (dst .entry)) ⌝ }
 {

@@ -4,8 +4,9 @@ ghost use Prim.Native.Nat.{_/_, _≤_};
 ghost use lib.ListN.{length};
 ghost use Rattle.row.specs.Row.{rowedOutcome};
 ghost use Rattle.value.specs.Kinds.{bytesOf};
-ghost use Rattle.block.specs.Samples.{countOf};
-ghost use Rattle.block.specs.Migrate.{placedFrom, blockAnswer, blockExit, stepSamples, stepAnswer, stepExit};
+ghost use Rattle.sample.specs.Samples.{countOf};
+ghost use Rattle.block.specs.Migrate.{placedFrom, blockAnswer, StepTaken};
+ghost use Rattle.block.specs.Inner.{blockExit};
 use crate::Progress;
 use crate::ROW_PLACES;
 use crate::passes::first_refused;
@@ -14,15 +15,16 @@ use crate::rows::floated;
 use crate::rows::made_whole;
 use crate::rows::narrowed;
 use crate::rows::widened;
-use crate::samples::number_of;
-use crate::samples::sample_at;
 use row::Rowed;
+use sample::count;
+use sample::number_of;
+use sample::sample_at;
 use std::num::wrapping_add_usize;
 use value::Kind;
 use value::Refusal;
 use value::bytes_of;
 
-pub(crate) fn refused(number: u8, place: usize) -> Rowed
+fn refused(number: u8, place: usize) -> Rowed
     ensures { λ r. ⌜ r ≡ Rowed.Refused (record { number = number; place = place }) ⌝ }
 {
     Rowed::Refused(Refusal { number, place })
@@ -36,8 +38,7 @@ fn one_by_one(from: Kind, to: Kind, src: &[u8], n: usize, dst: &mut [u8]) -> Row
 {
     let i = first_refused(from, to, src, n);
     if i < n {
-        let v = sample_at(from, src, i * bytes_of(from));
-        return refused(number_of(v, to), i);
+        return refused(number_of(sample_at(from, src, i), to), i);
     }
     write_samples(from, to, src, n, dst);
     Rowed::Done
@@ -80,7 +81,7 @@ fn block(from: Kind, to: Kind, src: &[u8], dst: &mut [u8]) -> Rowed
     ensures answer { λ r. ⌜ rowedOutcome r ≡ blockAnswer from to (now (src .entry)) (length (now (dst .entry))) ⌝ }
     ensures exit { λ _. ⌜ now (dst .exit) ≡ blockExit from to (now (src .entry)) (now (dst .entry)) ⌝ }
 {
-    let n = src.len() / bytes_of(from);
+    let n = count(from, src);
     if dst.len() / bytes_of(to) < n {
         return refused(9, 0);
     }
@@ -99,9 +100,7 @@ fn placed(samples: usize, r: Rowed) -> Rowed
 
 // After a refusal the samples are only counted.
 pub fn convert_block(s: Progress, from: Kind, to: Kind, src: &[u8], dst: &mut [u8]) -> Progress
-    ensures samples { λ r. ⌜ r .samples ≡ stepSamples from (s .samples) (now (src .entry)) ⌝ }
-    ensures answer { λ r. ⌜ rowedOutcome (r .answer) ≡ stepAnswer from to (s .samples) (rowedOutcome (s .answer)) (now (src .entry)) (length (now (dst .entry))) ⌝ }
-    ensures exit { λ _. ⌜ now (dst .exit) ≡ stepExit from to (s .samples) (rowedOutcome (s .answer)) (now (src .entry)) (now (dst .entry)) ⌝ }
+    ensures { λ r. ⌜ StepTaken from to s (now (src .entry)) (now (dst .entry)) (now (dst .exit)) r ⌝ }
 {
     let width = bytes_of(from);
     let samples = wrapping_add_usize(s.samples, src.len() / width);

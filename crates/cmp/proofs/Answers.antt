@@ -1,9 +1,8 @@
 -- What each arm of a match on two values answers.
 use mathlib.Core.Path.{_≡_, refl, sym, _∙_, ap, subst}
-use mathlib.Core.List.{List, _∷_}
-use mathlib.Core.Bool.{Bool, true, false, not}
+use mathlib.Core.Bool.{Bool, true, false}
 use Prim.Native.Nat.{ℕ}
-use lib.Dec.{T, eqb, ltb}
+use lib.Dec.{T}
 use lib.IntN.{ℤ}
 use lib.Ieee.{Format}
 use types.Run.{OneOf}
@@ -12,29 +11,32 @@ use Rattle.float.specs.declared.Order.{Order}
 use Rattle.float.specs.Format.{fractionOf, exponentOf}
 use Rattle.float.specs.Order.{orderZ, orderOf, patternOf, answer}
 use Rattle.float.specs.Number.{times}
-use Rattle.float.specs.Order as float
+use Rattle.float.specs.Order as patterns
+use Rattle.value.specs.declared.Kind.{Kind}
 use Rattle.value.specs.declared.Value.{Value}
-use Rattle.value.specs.Kinds.{kindOf, kindNumber}
+use Rattle.value.specs.Kinds.{kindOf, allKinds, formOf, isInteger}
 use Rattle.value.specs.Meaning.{wholeOf, numberOf, positionOf, exactOf, unit, stepOf}
 use Rattle.value.specs.Outcome.{gives, refuses, refuseIf, refusalOf, mapped}
 use Rattle.value.proofs.Value.{the-type}
+use Rattle.value.proofs.Forms.{Whole}
+use Rattle.value.proofs.KindNumbers.{number-injective}
 use Rattle.value.specs.declared.Refusal.{Refusal}
 use Rattle.cmp.specs.declared.Compared.{Compared}
 use Rattle.cmp.specs.declared.Compared.the-variants as compared
 use Rattle.cmp.specs.Compare.{kindsDiffer, compareOf, totalOf, comparedOutcome}
-use Rattle.cmp.proofs.KindTests.{all, kind-keys, differ, alike, one-kind}
+use Rattle.cmp.proofs.KindTests.{keysIn, by-keys, otherThan, differ, alike, one-kind}
 use Rattle.cmp.proofs.Numbers.{integers-order, patterns-order, positions-order}
 
 -- ---- the arm `_`: b is of another kind
 
-module _ (j : ℕ) (js : List ℕ) {a a' : Value} (b : Value) (q : a ≡ a') (o : OneOf (j ∷ js) (tagOf the-type b)) (t : T (all (λ n. not (eqb (kindNumber (kindOf a')) n)) j js)) where
+module _ {a a' : Value} (b : Value) (q : a ≡ a') (o : OneOf (keysIn (otherThan (kindOf a')) allKinds) (tagOf the-type b)) where
   pub compare-refused : refuses 7 0 ≡ compareOf a b
   unfolding compareOf
-  compare-refused = simp (differ j js b q o t)
+  compare-refused = simp (differ b q o)
 
   pub total-refused : refuses 7 0 ≡ totalOf a b
   unfolding totalOf
-  total-refused = simp (differ j js b q o t)
+  total-refused = simp (differ b q o)
 
 -- ---- an arm that knows both cases
 
@@ -51,22 +53,29 @@ module _ {a a' b b' : Value} (q : a ≡ a') (u : b ≡ b') (k : kindOf a' ≡ ki
   compare-integers y z v w h = compare-given (h ∙ integers-order y z ∙ sym (cc (v, w)))
 
   pub compare-floats : (f : Format) (m n : ℕ) {o : Order} → exactOf a' ≡ times (stepOf f) (patternOf (fractionOf f) (exponentOf f) m) → exactOf b' ≡ times (stepOf f) (patternOf (fractionOf f) (exponentOf f) n)
-      → o ≡ float.compareOf (fractionOf f) (exponentOf f) m n → gives o ≡ compareOf a b
-  compare-floats f m n v w h = compare-given (h ∙ patterns-order f m n ∙ sym (cc (v, w)))
+      → {i j : ℕ} → o ≡ patterns.compareOf (fractionOf f) (exponentOf f) i j → i ≡ m → j ≡ n → gives o ≡ compareOf a b
+  compare-floats f m n v w {i} {j} h p q =
+      let same : patterns.compareOf (fractionOf f) (exponentOf f) i j ≡ patterns.compareOf (fractionOf f) (exponentOf f) m n = cc (p, q) in
+      compare-given (h ∙ same ∙ patterns-order f m n ∙ sym (cc (v, w)))
+
+pub order-at : {i j y z : ℤ} {o : Order} → o ≡ orderZ i j → i ≡ y → j ≡ z → o ≡ orderZ y z
+order-at {i} {j} {y} {z} h p q = h ∙ ap (λ (k : ℤ). orderZ k j) p ∙ ap (λ (k : ℤ). orderZ y k) q
 
 -- ---- the arm of the total order for integer kinds, on which the two orders agree
 
-same-answer : (a b : Value) (t : Bool) → kindsDiffer a b ≡ t → T (ltb (kindNumber (kindOf a)) 8)
+same-answer : (a b : Value) (t : Bool) → kindsDiffer a b ≡ t → Whole a
     → refuseIf t 7 0 (gives (orderOf (numberOf a) (numberOf b))) ≡ refuseIf t 7 0 (gives (orderZ (positionOf a) (positionOf b)))
 same-answer a b true e h = refl
-same-answer a b false e h = ap gives (positions-order a b h (subst (λ (n : ℕ). T (ltb n 8)) (one-kind a b e) h))
+same-answer a b false e h =
+    let same = number-injective (kindOf a) (kindOf b) (one-kind a b e) in
+    ap gives (positions-order a b h (subst (λ (k : Kind). T (isInteger (formOf k))) same h))
 
-pub integers-agree : (a b : Value) → T (ltb (kindNumber (kindOf a)) 8) → compareOf a b ≡ totalOf a b
+pub integers-agree : (a b : Value) → Whole a → compareOf a b ≡ totalOf a b
 unfolding compareOf totalOf
 integers-agree a b h = same-answer a b (kindsDiffer a b) refl h
 
-pub total-integers : (j : ℕ) (js : List ℕ) (a b : Value) → OneOf (j ∷ js) (tagOf the-type a) → T (all (λ n. ltb n 8) j js) → compareOf a b ≡ totalOf a b
-total-integers j js a b o t = integers-agree a b (kind-keys (λ n. ltb n 8) j js a t o)
+pub total-integers : (a b : Value) → OneOf (keysIn (λ k. isInteger (formOf k)) allKinds) (tagOf the-type a) → compareOf a b ≡ totalOf a b
+total-integers a b o = integers-agree a b (by-keys (λ k. isInteger (formOf k)) a o)
 
 -- ---- a test of what was compared
 

@@ -5,14 +5,7 @@ use Rattle.cmp.specs.declared.Compared.{Compared}
 use Rattle.cmp.specs.declared.Compared.the-variants as compared
 use Rattle.cmp.specs.declared.Tested.{Tested}
 use Rattle.cmp.specs.declared.Tested.the-variants as tested
-use Rattle.cmp.specs.declared.Chosen.{Chosen}
-use Rattle.cmp.specs.declared.Chosen.the-variants as chosen
-use Rattle.cmp.specs.declared.Ranged.{Ranged}
-use Rattle.cmp.specs.declared.Ranged.the-variants as ranged
-use Rattle.cmp.specs.declared.Sampled.{Sampled}
-use Rattle.cmp.specs.declared.Sampled.the-variants as sampled
 use Rattle.cmp.specs.Compare.{comparedOutcome, testedOutcome}
-use Rattle.cmp.specs.Choose.{chosenOutcome, rangedOutcome, sampledOutcome}
 
 pub compared-injective : (r s : Compared) → comparedOutcome r ≡ comparedOutcome s → r ≡ s
 compared-injective (compared.Is o) (compared.Is p) h = cc
@@ -25,21 +18,3 @@ tested-injective (tested.Is o) (tested.Is p) h = cc
 tested-injective (tested.Is o) (tested.Refused g) h = cc
 tested-injective (tested.Refused f) (tested.Is p) h = cc
 tested-injective (tested.Refused f) (tested.Refused g) h = ap tested.Refused (refusal-injective f g h)
-
-pub chosen-injective : (r s : Chosen) → chosenOutcome r ≡ chosenOutcome s → r ≡ s
-chosen-injective (chosen.Is o) (chosen.Is p) h = cc
-chosen-injective (chosen.Is o) (chosen.Refused g) h = cc
-chosen-injective (chosen.Refused f) (chosen.Is p) h = cc
-chosen-injective (chosen.Refused f) (chosen.Refused g) h = ap chosen.Refused (refusal-injective f g h)
-
-pub ranged-injective : (r s : Ranged) → rangedOutcome r ≡ rangedOutcome s → r ≡ s
-ranged-injective (ranged.Is o) (ranged.Is p) h = cc
-ranged-injective (ranged.Is o) (ranged.Refused g) h = cc
-ranged-injective (ranged.Refused f) (ranged.Is p) h = cc
-ranged-injective (ranged.Refused f) (ranged.Refused g) h = ap ranged.Refused (refusal-injective f g h)
-
-pub sampled-injective : (r s : Sampled) → sampledOutcome r ≡ sampledOutcome s → r ≡ s
-sampled-injective (sampled.Is o) (sampled.Is p) h = cc
-sampled-injective (sampled.Is o) (sampled.Refused g) h = cc
-sampled-injective (sampled.Refused f) (sampled.Is p) h = cc
-sampled-injective (sampled.Refused f) (sampled.Refused g) h = ap sampled.Refused (refusal-injective f g h)

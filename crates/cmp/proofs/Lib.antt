@@ -6,5 +6,4 @@ pub mod Orders
 pub mod SameNumber
 pub mod Determined
 pub mod OrderKeys
-pub mod Choice
-pub mod Samples
+pub mod ByOrder

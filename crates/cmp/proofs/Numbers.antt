@@ -1,7 +1,6 @@
 -- Two values of one kind by the numbers that they stand for: the common unit changes no order.
 use mathlib.Core.Path.{_≡_, refl, sym, _∙_}
 use Prim.Native.Nat.{ℕ, _^_, _≤_}
-use lib.Dec.{T, ltb}
 use lib.IntN.{ℤ, pos, negsuc}
 use lib.Ieee.{Format}
 use mir.Syntax.{Width, w64}
@@ -12,10 +11,10 @@ use Rattle.float.specs.Format.{fractionOf, exponentOf}
 use Rattle.float.specs.Number.{times}
 use Rattle.float.specs.Number as float-number
 use Rattle.float.specs.Order.{orderZ, orderOf, patternOf}
-use Rattle.float.specs.Order as float
+use Rattle.float.specs.Order as patterns
 use Rattle.value.specs.declared.Value.{Value}
 use Rattle.value.specs.declared.Value.the-variants.{U8, U16, U32, U64, I8, I16, I32, I64, F32, F64}
-use Rattle.value.specs.Kinds.{kindOf, kindNumber}
+use Rattle.value.proofs.Forms.{Whole}
 use Rattle.value.proofs.Units.{unit-pos, step-pos}
 use Rattle.value.proofs.TwosComplement.{wider, recast, recast-back}
 use Rattle.float.proofs.Comparing.{times-order}
@@ -33,13 +32,13 @@ integers-order y z = sym (times-order unit unit-pos (wholeOf y) (wholeOf z) ∙ 
 
 -- two patterns of one format
 pub patterns-order : (f : Format) (a b : ℕ)
-    → float.compareOf (fractionOf f) (exponentOf f) a b
+    → patterns.compareOf (fractionOf f) (exponentOf f) a b
     ≡ orderOf (float-number.numberOf (times (stepOf f) (patternOf (fractionOf f) (exponentOf f) a))) (float-number.numberOf (times (stepOf f) (patternOf (fractionOf f) (exponentOf f) b)))
-unfolding float.compareOf
+unfolding patterns.compareOf
 patterns-order f a b = sym (times-order (stepOf f) (step-pos f) (patternOf (fractionOf f) (exponentOf f) a) (patternOf (fractionOf f) (exponentOf f) b))
 
 -- an integer kind's position is its number
-whole-position : (v : Value) → T (ltb (kindNumber (kindOf v)) 8) → exactOf v ≡ times unit (wholeOf (positionOf v))
+whole-position : (v : Value) → Whole v → exactOf v ≡ times unit (wholeOf (positionOf v))
 whole-position (U8 n) t = refl
 whole-position (U16 n) t = refl
 whole-position (U32 n) t = refl
@@ -51,7 +50,7 @@ whole-position (I64 z) t = refl
 whole-position (F32 x w) t = absurd t
 whole-position (F64 x w) t = absurd t
 
-pub positions-order : (a b : Value) → T (ltb (kindNumber (kindOf a)) 8) → T (ltb (kindNumber (kindOf b)) 8) → orderOf (numberOf a) (numberOf b) ≡ orderZ (positionOf a) (positionOf b)
+pub positions-order : (a b : Value) → Whole a → Whole b → orderOf (numberOf a) (numberOf b) ≡ orderZ (positionOf a) (positionOf b)
 positions-order a b s t = cc (whole-position a s, whole-position b t) ∙ sym (integers-order (positionOf a) (positionOf b))
 
 -- ---- two signed numbers, which the machine reads back from their bits at the width 64

@@ -30,9 +30,13 @@ kindsDiffer a b = not (eqb (kindNumber (kindOf a)) (kindNumber (kindOf b)))
 abbrev pub valueRules : Value → Value → List Rule
 valueRules a b = rule 7 0 (kindsDiffer a b) ∷ []
 
+-- the order of two values is that of their numbers
+abbrev pub valueOrder : Value → Value → Order
+valueOrder a b = orderOf (numberOf a) (numberOf b)
+
 -- two values of one kind compare as their numbers do
 unfoldable pub compareOf : Value → Value → Outcome Order
-compareOf a b = chain (valueRules a b) (gives (orderOf (numberOf a) (numberOf b)))
+compareOf a b = chain (valueRules a b) (gives (valueOrder a b))
 
 -- the six tests of that comparison
 abbrev pub eqOf : Value → Value → Outcome Bool

@@ -19,13 +19,13 @@ use Rattle.float.proofs.Naturals.{three-ways}
 use Rattle.float.proofs.Magnitude.{abs-signed, mag-grows, mag-largest}
 use Rattle.float.proofs.Comparing.{pattern-nan, pattern-infinite, pattern-finite}
 use Rattle.float.proofs.Tests.{clash}
-use Rattle.value.specs.Kinds.{Form, unsigned, signed, float}
+use Rattle.value.specs.Kinds.{Form, unsigned, signed, floating, isInteger}
 use Rattle.value.specs.Meaning.{wholeOf, unit, stepOf}
 use Rattle.value.specs.Outcome.{gives}
 use Rattle.value.specs.Rules.{chain}
 use Rattle.value.proofs.Units.{unit-pos}
 use Rattle.value.proofs.Outcomes.{refuse-passes}
-use Rattle.convert.specs.Convert.{intoRules, isInfinite, isInteger, hasFraction, outside, outOfRange, notHeld, heldIn, patternFor, signFor, magnitudeFor, absFor, integerFor}
+use Rattle.convert.specs.Convert.{intoRules, isInfinite, hasFraction, outside, outOfRange, notHeld, heldIn, patternFor, signFor, magnitudeFor, absFor, integerFor}
 use Rattle.convert.proofs.Encode.{held-of}
 use Rattle.convert.proofs.Patterns.{two-or-more, inf-range, made-small, encode-below, finite-made, infinite-made}
 
@@ -53,7 +53,7 @@ rules-give form x result a = simp (a .some-number, a .no-infinity, a .no-fractio
 abbrev pub exactFor : Form → Exact → Exact
 exactFor (unsigned k) x = times unit (wholeOf (pos (magnitudeFor x)))
 exactFor (signed k) x = times unit (wholeOf (integerFor x))
-exactFor (float f) x = times (stepOf f) (patternOf (fractionOf f) (exponentOf f) (patternFor f x))
+exactFor (floating f) x = times (stepOf f) (patternOf (fractionOf f) (exponentOf f) (patternFor f x))
 
 -- ---- signs and magnitudes
 
@@ -89,13 +89,13 @@ made-unsigned k true m w h =
     ap (λ (n : ℕ). number (pos n)) (w ∙ q) ∙ sym (ap (λ (n : ℕ). numberOf (finite true n)) q)
 
 -- in a float format the sign of a zero is kept too
-pub made-float : (f : Format) (x : Exact) → Accepted (float f) x → exactFor (float f) x ≡ x
+pub made-float : (f : Format) (x : Exact) → Accepted (floating f) x → exactFor (floating f) x ≡ x
 made-float f notNumber a = absurd (true≢false (a .some-number))
 made-float f (infinite s) a = infinite-made f s
 made-float f (finite s m) a = finite-made f s m (ltb-false _ _ (a .in-range)) (not-false _ (a .held))
 
 pub made-number : (form : Form) (x : Exact) → Accepted form x → numberOf (exactFor form x) ≡ numberOf x
-made-number (float f) x a = ap numberOf (made-float f x a)
+made-number (floating f) x a = ap numberOf (made-float f x a)
 made-number (unsigned k) notNumber a = absurd (true≢false (a .some-number))
 made-number (unsigned k) (infinite s) a = absurd (true≢false (a .no-infinity))
 made-number (unsigned k) (finite s m) a = made-unsigned k s m (whole-part m (a .no-fraction)) (a .in-range)
@@ -121,12 +121,12 @@ signed-fits k (finite true m) a = minus-fits (2 ^ (k - 1)) (m / unit) (pow-pos (
 signed-fits k (finite false m) a = let l : m / unit ≤ 2 ^ (k - 1) - 1 = ltb-false _ _ (a .in-range) in omega (arith, pow-pos (k - 1))
 
 -- the abs lies below the sign bit, so the pattern has the format's bits
-pub abs-small : (f : Format) (x : Exact) → Accepted (float f) x → absFor f x < signOf (fractionOf f) (exponentOf f)
+pub abs-small : (f : Format) (x : Exact) → Accepted (floating f) x → absFor f x < signOf (fractionOf f) (exponentOf f)
 abs-small f notNumber a = absurd (true≢false (a .some-number))
 abs-small f (infinite s) a = inf-range f .1
 abs-small f (finite s m) a = omega (arith, inf-range f .1, encode-below f m (ltb-false _ _ (a .in-range)) (not-false _ (a .held)))
 
-pub pattern-small : (f : Format) (x : Exact) → Accepted (float f) x → patternFor f x < 2 * signOf (fractionOf f) (exponentOf f)
+pub pattern-small : (f : Format) (x : Exact) → Accepted (floating f) x → patternFor f x < 2 * signOf (fractionOf f) (exponentOf f)
 pattern-small f x a = made-small f (signFor x) (absFor f x) (abs-small f x a)
 
 -- ---- some value has the number: accepted
@@ -195,7 +195,7 @@ finite-magnitude f c s m h = elim (three-ways (absOf (fractionOf f) (exponentOf 
   | inr (inr g) ↦ only-finite (signedOf s m) true (inl (sym h ∙ ap (λ (x : Exact). numberOf (times (stepOf f) x)) (pattern-nan (fractionOf f) (exponentOf f) c g)))
 ]
 
-pub accepts-float : (f : Format) (c : ℕ) (x : Exact) → isNone x ≡ false → numberOf (times (stepOf f) (patternOf (fractionOf f) (exponentOf f) c)) ≡ numberOf x → Accepted (float f) x
+pub accepts-float : (f : Format) (c : ℕ) (x : Exact) → isNone x ≡ false → numberOf (times (stepOf f) (patternOf (fractionOf f) (exponentOf f) c)) ≡ numberOf x → Accepted (floating f) x
 accepts-float f c notNumber t h = absurd (true≢false t)
 accepts-float f c (infinite s) t h = record { some-number = refl; no-infinity = refl; no-fraction = refl; in-range = refl; held = refl }
 accepts-float f c (finite s m) t h =

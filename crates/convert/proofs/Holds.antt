@@ -15,7 +15,7 @@ use Rattle.float.specs.Format.{magOf}
 use Rattle.float.proofs.Naturals.{lt-or-ge}
 use Rattle.value.specs.Outcome.{gives, refuses}
 use Rattle.convert.specs.Convert.{dropOf, encodeAt}
-use Rattle.convert.specs.Steps.{heldAt, floatAt}
+use Rattle.convert.specs.Inner.{heldAt, floatAt}
 use Rattle.convert.proofs.Binary.{size-is, size-zero, size-scale, mod-scale}
 use Rattle.convert.proofs.Encode.{mag-has, mag-encode}
 

@@ -7,10 +7,11 @@ use Rattle.float.specs.Number.{notNumber, infinite, none}
 use Rattle.float.proofs.Tests.{clash}
 use Rattle.value.specs.declared.Kind.{Kind}
 use Rattle.value.specs.declared.Value.{Value}
-use Rattle.value.specs.Kinds.{kindOf, kindNumber, Form, float, formOf}
+use Rattle.value.specs.Kinds.{kindOf, kindNumber, Form, floating, formOf, isInteger}
 use Rattle.value.specs.Meaning.{exactOf, numberOf, valueOf}
 use Rattle.value.specs.Outcome.{gives, refuses}
-use Rattle.convert.specs.Convert.{isInteger, intoOf, convertOf, madeIn}
+use Rattle.convert.specs.Convert.{convertOf, madeIn}
+use Rattle.convert.specs.Inner.{intoOf}
 use Rattle.convert.proofs.Accepted.{Accepted}
 use Rattle.convert.proofs.Exactly.{into-gives, other-kind, complete, kept}
 
@@ -27,8 +28,8 @@ module _ (v : Value) (to : Kind) (other : kindNumber (kindOf v) ≡ kindNumber t
   unfolding intoOf
   infinity-refused s q t = other-kind v to other ∙ simp (q, t)
 
-  pub infinity-passes : (s : Bool) (f : Format) → exactOf v ≡ infinite s → formOf to ≡ float f → (w : Value) × (convertOf v to ≡ gives w) × (exactOf w ≡ infinite s)
+  pub infinity-passes : (s : Bool) (f : Format) → exactOf v ≡ infinite s → formOf to ≡ floating f → (w : Value) × (convertOf v to ≡ gives w) × (exactOf w ≡ infinite s)
   infinity-passes s f q t =
-      let a : Accepted (float f) (infinite s) = record { some-number = refl; no-infinity = refl; no-fraction = refl; in-range = refl; held = refl } in
+      let a : Accepted (floating f) (infinite s) = record { some-number = refl; no-infinity = refl; no-fraction = refl; in-range = refl; held = refl } in
       let g = other-kind v to other ∙ into-gives to (exactOf v) (subst (Accepted (formOf to)) (sym q) (subst (λ (form : Form). Accepted form (infinite s)) (sym t) a)) in
       (madeIn to (exactOf v), g, kept v to other f t (madeIn to (exactOf v)) g ∙ q)

@@ -7,54 +7,30 @@ use lib.Dec.{eqb, ltb}
 use lib.IntN.{ℤ, pos, negsuc}
 use lib.Ieee.{Format, binary32, binary64}
 use lib.Signed.{mag}
-use Rattle.float.specs.Format.{fractionOf, exponentOf, signOf, infOf}
+use Rattle.float.specs.Format.{fractionOf, exponentOf, infOf}
 use Rattle.float.specs.ClassMeaning.{largestOf}
-use Rattle.float.specs.Number.{Exact, notNumber, infinite, finite, isNone, signedOf}
+use Rattle.float.specs.Number.{Exact, notNumber, infinite, finite, signedOf}
 use Rattle.value.specs.declared.Kind.{Kind}
 use Rattle.value.specs.declared.Kind.the-variants as kind
 use Rattle.value.specs.declared.Value.{Value}
 use Rattle.value.specs.declared.Value.the-variants.{U8, U16, U32, U64, I8, I16, I32, I64}
-use Rattle.value.specs.Kinds.{Form, unsigned, signed, float, formOf}
-use Rattle.value.specs.Meaning.{unit, stepOf, f32Value, f64Value}
+use Rattle.value.specs.Kinds.{Form, unsigned, signed, floating, formOf}
+use Rattle.value.specs.Meaning.{unit, stepOf}
 use Rattle.value.specs.Outcome.{Outcome, gives, refuses, refuseIf, mapped}
 use Rattle.value.specs.Rules.{chain}
 use Rattle.value.proofs.Rules.{chain-mapped}
-use Rattle.convert.specs.declared.Found.{Found}
-use Rattle.convert.specs.declared.Found.the-variants as found
-use Rattle.convert.specs.Convert.{encodeOf, heldIn, isInfinite, isInteger, hasFraction, outside, outOfRange, notHeld, intoRules, withSign, signFor, magnitudeFor, absFor, madeIn, intoOf}
-use Rattle.convert.specs.Steps.{foundOutcome, wholeIn, floatIn}
+use Rattle.convert.specs.declared.Fitted.{Fitted}
+use Rattle.convert.specs.declared.Fitted.the-variants as fitted
+use Rattle.convert.specs.Convert.{encodeOf, heldIn, hasFraction, outside, intoRules, signFor, magnitudeFor, absFor, madeIn}
+use Rattle.convert.specs.Inner.{intoOf, fittedOutcome, wholeIn, patternIn, findIn, FitsIn, makeIn}
 use Rattle.convert.proofs.Accepted.{Accepted, rules-accept, unsigned-fits, signed-fits, abs-small}
 
--- ---- what each kind finds, and makes of it
-
-abbrev pub findIn : Kind → Exact → Outcome (Bool × ℕ)
-findIn kind.U8 x = wholeIn 0 0xff x
-findIn kind.U16 x = wholeIn 0 0xffff x
-findIn kind.U32 x = wholeIn 0 0xffff_ffff x
-findIn kind.U64 x = wholeIn 0 0xffff_ffff_ffff_ffff x
-findIn kind.I8 x = wholeIn 0x80 0x7f x
-findIn kind.I16 x = wholeIn 0x8000 0x7fff x
-findIn kind.I32 x = wholeIn 0x8000_0000 0x7fff_ffff x
-findIn kind.I64 x = wholeIn 0x8000_0000_0000_0000 0x7fff_ffff_ffff_ffff x
-findIn kind.F32 x = floatIn 23 (2 ^ 925) 253 x
-findIn kind.F64 x = floatIn 52 1 2045 x
-
-abbrev pub makeIn : Kind → Bool × ℕ → Value
-makeIn kind.U8 w = U8 (w .1)
-makeIn kind.U16 w = U16 (w .1)
-makeIn kind.U32 w = U32 (w .1)
-makeIn kind.U64 w = U64 (w .1)
-makeIn kind.I8 w = I8 (signedOf (w .0) (w .1))
-makeIn kind.I16 w = I16 (signedOf (w .0) (w .1))
-makeIn kind.I32 w = I32 (signedOf (w .0) (w .1))
-makeIn kind.I64 w = I64 (signedOf (w .0) (w .1))
-makeIn kind.F32 w = f32Value (withSign binary32 (w .0) (w .1))
-makeIn kind.F64 w = f64Value (withSign binary64 (w .0) (w .1))
+-- ---- the number that a form has
 
 abbrev numberFor : Form → Exact → ℕ
 numberFor (unsigned k) x = magnitudeFor x
 numberFor (signed k) x = magnitudeFor x
-numberFor (float f) x = absFor f x
+numberFor (floating f) x = absFor f x
 
 -- ---- the rules by the cases of the number
 
@@ -79,8 +55,8 @@ find-signed k (infinite s) = refl
 find-signed k (finite s m) = whole-rules (not (eqb (m % unit) 0)) (outside (2 ^ (k - 1)) (2 ^ (k - 1) - 1) s (m / unit)) (s, m / unit)
 
 find-float : (f : Format) (last : ℕ) → last ≡ 2 ^ exponentOf f - 3 → (last + 2) * 2 ^ fractionOf f ≡ infOf (fractionOf f) (exponentOf f) → (x : Exact)
-    → floatIn (fractionOf f) (stepOf f) last x ≡ chain (intoRules (float f) x) (gives (signFor x, absFor f x))
-unfolding floatIn heldIn encodeOf
+    → patternIn (fractionOf f) (stepOf f) last x ≡ chain (intoRules (floating f) x) (gives (signFor x, absFor f x))
+unfolding patternIn heldIn encodeOf
 find-float f last q i notNumber = refl
 find-float f last q i (infinite s) = ap (λ (n : ℕ). gives (s, n)) i
 find-float f last q i (finite s m) = rw q (float-rules (hasFraction (finite s m)) (ltb (largestOf (fractionOf f) (exponentOf f) * stepOf f) m) (not (heldIn f m)) (s, encodeOf f m))
@@ -100,7 +76,7 @@ find-rules kind.F64 x = find-float binary64 2045 refl refl x
 
 -- ---- the value made of it
 
-make-is : (to : Kind) (x : Exact) → makeIn to (signFor x, numberFor (formOf to) x) ≡ madeIn to x
+make-is : (to : Kind) (x : Exact) → makeIn to (signFor x) (numberFor (formOf to) x) ≡ madeIn to x
 unfolding madeIn
 make-is kind.U8 x = refl
 make-is kind.U16 x = refl
@@ -113,42 +89,49 @@ make-is kind.I64 x = refl
 make-is kind.F32 x = refl
 make-is kind.F64 x = refl
 
-into-found : (to : Kind) (x : Exact) → mapped (makeIn to) (findIn to x) ≡ intoOf to x
+abbrev made : Kind → Bool × ℕ → Value
+made to w = makeIn to (w .0) (w .1)
+
+into-found : (to : Kind) (x : Exact) → mapped (made to) (findIn to x) ≡ intoOf to x
 unfolding intoOf
 into-found to x =
-    ap (mapped (makeIn to)) (find-rules to x)
-    ∙ chain-mapped (makeIn to) (intoRules (formOf to) x) (gives (signFor x, numberFor (formOf to) x))
+    ap (mapped (made to)) (find-rules to x)
+    ∙ chain-mapped (made to) (intoRules (formOf to) x) (gives (signFor x, numberFor (formOf to) x))
     ∙ ap (λ (v : Value). chain (intoRules (formOf to) x) (gives v)) (make-is to x)
 
--- ---- what was found fits the kind
+-- ---- as the code has it
 
-abbrev FitsIn : Form → Bool × ℕ → Type 0
-FitsIn (unsigned k) w = w .1 < 2 ^ k
-FitsIn (signed k) w = mag (signedOf (w .0) (w .1)) < 2 ^ (k - 1)
-FitsIn (float f) w = w .1 < signOf (fractionOf f) (exponentOf f)
-
-number-fits : (form : Form) (x : Exact) → Accepted form x → FitsIn form (signFor x, numberFor form x)
+number-fits : (form : Form) (x : Exact) → Accepted form x → FitsIn form (signFor x) (numberFor form x)
 number-fits (unsigned k) x a = unsigned-fits k x a
 number-fits (signed k) x a = signed-fits k x a
-number-fits (float f) x a = abs-small f x a
+number-fits (floating f) x a = abs-small f x a
 
--- ---- as the code has it: what was found, in the arm of a kind
+module _ (to : Kind) (x : Exact) (w : Fitted) (h : fittedOutcome w ≡ findIn to x) where
+  into : mapped (made to) (fittedOutcome w) ≡ intoOf to x
+  into = ap (mapped (made to)) h ∙ into-found to x
 
-module _ (k : Kind) (x : Exact) (w : Found) (h : foundOutcome w ≡ findIn k x) where
-  made : mapped (makeIn k) (foundOutcome w) ≡ intoOf k x
-  made = ap (mapped (makeIn k)) h ∙ into-found k x
+  pub put-is : (s : Bool) (n : ℕ) → w ≡ fitted.Is s n → gives (makeIn to s n) ≡ intoOf to x
+  put-is s n q = sym (ap (λ (v : Fitted). mapped (made to) (fittedOutcome v)) q) ∙ into
 
-  module _ {to : Kind} (at : to ≡ k) where
-    pub put-is : (s : Bool) (n : ℕ) → w ≡ found.Is s n → gives (makeIn k (s, n)) ≡ intoOf to x
-    put-is s n q = sym (ap (λ (v : Found). mapped (makeIn k) (foundOutcome v)) q) ∙ made ∙ sym (ap (λ (j : Kind). intoOf j x) at)
+  pub put-refused : (j : ℕ) → w ≡ fitted.Refused j → refuses j 0 ≡ intoOf to x
+  put-refused j q = sym (ap (λ (v : Fitted). mapped (made to) (fittedOutcome v)) q) ∙ into
 
-    pub put-refused : (j : ℕ) → w ≡ found.Refused j → refuses j 0 ≡ intoOf to x
-    put-refused j q = sym (ap (λ (v : Found). mapped (makeIn k) (foundOutcome v)) q) ∙ made ∙ sym (ap (λ (j : Kind). intoOf j x) at)
-
-  pub found-fits : (s : Bool) (n : ℕ) → w ≡ found.Is s n → FitsIn (formOf k) (s, n)
+  -- what was found fits the kind
+  pub found-fits : (s : Bool) (n : ℕ) → w ≡ fitted.Is s n → FitsIn (formOf to) s n
   found-fits s n q =
-      let a = rules-accept (formOf k) x (signFor x, numberFor (formOf k) x) (s, n) (sym (find-rules k x) ∙ sym h ∙ ap foundOutcome q) in
-      subst (λ (v : Bool × ℕ). FitsIn (formOf k) v) (a .1) (number-fits (formOf k) x (a .0))
+      let a = rules-accept (formOf to) x (signFor x, numberFor (formOf to) x) (s, n) (sym (find-rules to x) ∙ sym h ∙ ap fittedOutcome q) in
+      subst (λ (v : Bool × ℕ). FitsIn (formOf to) (v .0) (v .1)) (a .1) (number-fits (formOf to) x (a .0))
+
+-- in the arm of a kind
+module _ (k : Kind) {to : Kind} (at : to ≡ k) where
+  pub find-at : (x : Exact) {o : Outcome (Bool × ℕ)} → o ≡ findIn k x → o ≡ findIn to x
+  find-at x h = h ∙ sym (ap (λ (j : Kind). findIn j x) at)
+
+  pub fits-at : (s : Bool) (n : ℕ) → FitsIn (formOf to) s n → FitsIn (formOf k) s n
+  fits-at s n h = subst (λ (j : Kind). FitsIn (formOf j) s n) at h
+
+  pub make-at : (s : Bool) (n : ℕ) {v : Value} → v ≡ makeIn k s n → v ≡ makeIn to s n
+  make-at s n h = h ∙ sym (ap (λ (j : Kind). makeIn j s n) at)
 
 -- ---- a sign and a magnitude as a signed number
 

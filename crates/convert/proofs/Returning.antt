@@ -19,12 +19,12 @@ use Rattle.float.proofs.Comparing.{pattern-nan, pattern-infinite, pattern-finit
 use Rattle.value.specs.declared.Kind.{Kind}
 use Rattle.value.specs.declared.Kind.the-variants as kind
 use Rattle.value.specs.declared.Value.{Value}
-use Rattle.value.specs.Kinds.{Form, unsigned, signed, float, formOf, kindOf, kindNumber}
+use Rattle.value.specs.Kinds.{Form, unsigned, signed, floating, formOf, kindOf, kindNumber, isInteger}
 use Rattle.value.specs.Meaning.{wholeOf, unit, stepOf, exactOf, numberOf, bitsOf, twosOf, fromTwos, f32Value, f64Value, valueOf}
 use Rattle.value.specs.Outcome.{gives}
 use Rattle.value.proofs.Units.{unit-pos}
 use Rattle.value.proofs.MadeValues.{bits-made, value-kind}
-use Rattle.convert.specs.Convert.{isInteger, withSign, magnitudeFor, integerFor, patternFor, madeIn, convertOf}
+use Rattle.convert.specs.Convert.{withSign, magnitudeFor, integerFor, patternFor, madeIn, convertOf}
 use Rattle.convert.proofs.Accepted.{exactFor}
 use Rattle.convert.proofs.Encode.{encode-held}
 use Rattle.convert.proofs.Exactly.{none-is, into-accepts, made-exact, other-kind, sound, complete, kept}
@@ -110,15 +110,15 @@ made-again kind.I64 b t = ap (twosOf (2 ^ 64 - 1)) (integer-again (fromTwos (2 ^
 made-again kind.F32 b t = ap (λ (n : ℕ). bitsOf (f32Value n)) (pattern-again binary32 (bitsOf (valueOf kind.F32 b)) t ∙ bits-made kind.F32 b)
 made-again kind.F64 b t = ap (λ (n : ℕ). bitsOf (f64Value n)) (pattern-again binary64 (bitsOf (valueOf kind.F64 b)) t ∙ bits-made kind.F64 b)
 
-integer-or-float : (form : Form) → (isInteger form ≡ true) ⊎ ((f : Format) × (form ≡ float f))
+integer-or-float : (form : Form) → (isInteger form ≡ true) ⊎ ((f : Format) × (form ≡ floating f))
 integer-or-float (unsigned k) = inl refl
 integer-or-float (signed k) = inl refl
-integer-or-float (float f) = inr (f, refl)
+integer-or-float (floating f) = inr (f, refl)
 
 integer-signless : (form : Form) (x : Exact) → isInteger form ≡ true → exactFor form x ≡ finite true 0 → ⊥
 integer-signless (unsigned k) x t h = whole-signless (pos (magnitudeFor x)) h
 integer-signless (signed k) x t h = whole-signless (integerFor x) h
-integer-signless (float f) x t h = true≢false (sym t)
+integer-signless (floating f) x t h = true≢false (sym t)
 
 module _ (v : Value) (to : Kind) (other : kindNumber (kindOf v) ≡ kindNumber to → ⊥) where
   -- what arrives is what was sent, but for the sign of a zero in an integer kind

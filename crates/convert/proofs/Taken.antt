@@ -17,7 +17,7 @@ use Rattle.float.specs.Number.{notNumber, infinite, finite, times}
 use Rattle.float.specs.Order.{patternOf}
 use Rattle.value.specs.Meaning.{wholeOf, floatBits}
 use Rattle.value.proofs.TwosComplement.{twice}
-use Rattle.convert.specs.Steps.{patternAt}
+use Rattle.convert.specs.Inner.{patternAt}
 
 -- ---- a signed number
 

@@ -12,7 +12,7 @@ use lib.Ieee.Digits.{size-lt, size-reaches}
 use Rattle.value.specs.Meaning.{unit}
 use Rattle.value.specs.Outcome.{gives, refuses}
 use Rattle.convert.specs.Convert.{outside}
-use Rattle.convert.specs.Steps.{wholeAt}
+use Rattle.convert.specs.Inner.{wholeAt}
 use Rattle.convert.proofs.Binary.{size-scale, over-up}
 
 -- ---- the range

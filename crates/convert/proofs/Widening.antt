@@ -20,7 +20,7 @@ use Rattle.float.proofs.Comparing.{pattern-nan, pattern-infinite, pattern-finit
 use Rattle.value.specs.declared.Kind.{Kind}
 use Rattle.value.specs.declared.Kind.the-variants as kind
 use Rattle.value.specs.declared.Value.{Value}
-use Rattle.value.specs.Kinds.{Form, unsigned, signed, float, formOf, kindNumber}
+use Rattle.value.specs.Kinds.{Form, unsigned, signed, floating, formOf, kindNumber}
 use Rattle.value.specs.Meaning.{wholeOf, unit, stepOf, exactOf, numberOf, fromTwos, valueOf}
 use Rattle.value.specs.Outcome.{gives}
 use Rattle.value.proofs.MadeValues.{low-bits, value-kind}
@@ -61,7 +61,7 @@ module _ (f : Format) (s : Bool) (q j d : ℕ) (few : q < 2 ^ d) (short : d ≤ 
   unfolding heldIn encodeOf
   is-held = rw (step-is f) (held-when (fractionOf f) (stepBits f) (q * 2 ^ j) dropped refl nothing-left)
 
-  few-accepted : Accepted (float f) (finite s (q * 2 ^ j))
+  few-accepted : Accepted (floating f) (finite s (q * 2 ^ j))
   few-accepted = record {
     some-number = refl;
     no-infinity = refl;
@@ -75,21 +75,21 @@ module _ (f : Format) (s : Bool) (q j d : ℕ) (few : q < 2 ^ d) (short : d ≤ 
 abbrev pub Holds : Form → Exact → Type 0
 Holds (unsigned k) x = (n : ℕ) × (n < 2 ^ k) × (x ≡ times unit (wholeOf (pos n)))
 Holds (signed k) x = (z : ℤ) × (mag z < 2 ^ (k - 1)) × (x ≡ times unit (wholeOf z))
-Holds (float f) x = (c : ℕ) × (x ≡ times (stepOf f) (patternOf (fractionOf f) (exponentOf f) c))
+Holds (floating f) x = (c : ℕ) × (x ≡ times (stepOf f) (patternOf (fractionOf f) (exponentOf f) c))
 
 abbrev pub widens : Form → Form → Bool
 widens (unsigned j) (unsigned k) = leb j k
 widens (unsigned j) (signed k) = leb j (k - 1)
-widens (unsigned j) (float f) = leb j (suc (fractionOf f))
+widens (unsigned j) (floating f) = leb j (suc (fractionOf f))
 widens (signed j) (unsigned k) = false
 widens (signed j) (signed k) = leb (j - 1) (k - 1)
-widens (signed j) (float f) = leb j (suc (fractionOf f))
-widens (float f) (unsigned k) = false
-widens (float f) (signed k) = false
-widens (float f) (float g) = leb (fractionOf f) (fractionOf g)
+widens (signed j) (floating f) = leb j (suc (fractionOf f))
+widens (floating f) (unsigned k) = false
+widens (floating f) (signed k) = false
+widens (floating f) (floating g) = leb (fractionOf f) (fractionOf g)
 
 -- a whole number of few digits
-whole-accepted : (f : Format) (s : Bool) (n k : ℕ) → n < 2 ^ k → k ≤ suc (fractionOf f) → Accepted (float f) (finite s (n * unit))
+whole-accepted : (f : Format) (s : Bool) (n k : ℕ) → n < 2 ^ k → k ≤ suc (fractionOf f) → Accepted (floating f) (finite s (n * unit))
 unfolding unit
 whole-accepted binary32 s n k h l = few-accepted binary32 s n 1074 k h l (omega arith) (omega arith)
 whole-accepted binary64 s n k h l = few-accepted binary64 s n 1074 k h l (omega arith) (omega arith)
@@ -98,32 +98,32 @@ abs-few : (z : ℤ) (h : ℕ) → mag z < 2 ^ h → natAbs z < 2 ^ suc h
 abs-few (pos n) h l = let t : 2 ^ suc h ≡ 2 ^ h * 2 = pow-suc 2 h in omega arith
 abs-few (negsuc n) h l = let t : 2 ^ suc h ≡ 2 ^ h * 2 = pow-suc 2 h in omega arith
 
-integer-accepted : (f : Format) (z : ℤ) (k : ℕ) → natAbs z < 2 ^ k → k ≤ suc (fractionOf f) → Accepted (float f) (times unit (wholeOf z))
+integer-accepted : (f : Format) (z : ℤ) (k : ℕ) → natAbs z < 2 ^ k → k ≤ suc (fractionOf f) → Accepted (floating f) (times unit (wholeOf z))
 integer-accepted f (pos n) k h l = whole-accepted f false n k h l
 integer-accepted f (negsuc n) k h l = whole-accepted f true (suc n) k h l
 
 -- a finite f32 in f64: its fields are a number of at most 24 digits and a place
-fields-accepted : (s : Bool) (E r : ℕ) → E < 255 → r < 2 ^ 23 → Accepted (float binary64) (finite s (magAt 23 E r * 2 ^ 925))
+fields-accepted : (s : Bool) (E r : ℕ) → E < 255 → r < 2 ^ 23 → Accepted (floating binary64) (finite s (magAt 23 E r * 2 ^ 925))
 fields-accepted s zero r l h = few-accepted binary64 s r 925 23 h (omega arith) (omega arith) (omega arith)
 fields-accepted s (suc k) r l h =
     let q : (2 ^ 23 + r) * 2 ^ (k + 925) ≡ (2 ^ 23 + r) * 2 ^ k * 2 ^ 925 = ap (λ (n : ℕ). (2 ^ 23 + r) * n) (pow-add 2 k 925) ∙ sym (mul-assoc (2 ^ 23 + r) (2 ^ k) (2 ^ 925)) in
-    subst (λ (m : ℕ). Accepted (float binary64) (finite s m)) q (few-accepted binary64 s (2 ^ 23 + r) (k + 925) 24 (omega arith) (omega arith) (omega arith) (omega arith))
+    subst (λ (m : ℕ). Accepted (floating binary64) (finite s m)) q (few-accepted binary64 s (2 ^ 23 + r) (k + 925) 24 (omega arith) (omega arith) (omega arith) (omega arith))
 
-single-accepted : (c : ℕ) → isNone (times (2 ^ 925) (patternOf 23 8 c)) ≡ false → Accepted (float binary64) (times (2 ^ 925) (patternOf 23 8 c))
+single-accepted : (c : ℕ) → isNone (times (2 ^ 925) (patternOf 23 8 c)) ≡ false → Accepted (floating binary64) (times (2 ^ 925) (patternOf 23 8 c))
 unfolding magOf
 single-accepted c t = elim (three-ways (absOf 23 8 c) (infOf 23 8)) [
   | inl l ↦
       let e : absOf 23 8 c / 2 ^ 23 < 255 = div-lt-iff-lt-mul {k = 2 ^ 23} {x = absOf 23 8 c} {y = 255} (pow-pos 23) .1 l in
-      subst (λ (x : Exact). Accepted (float binary64) (times (2 ^ 925) x)) (sym (pattern-finite 23 8 c l))
+      subst (λ (x : Exact). Accepted (floating binary64) (times (2 ^ 925) x)) (sym (pattern-finite 23 8 c l))
       (fields-accepted (negativeOf 23 8 c) (absOf 23 8 c / 2 ^ 23) (absOf 23 8 c % 2 ^ 23) e (mod-lt (absOf 23 8 c) (pow-pos 23)))
   | inr (inl q) ↦
-      subst (λ (x : Exact). Accepted (float binary64) (times (2 ^ 925) x)) (sym (pattern-infinite 23 8 c q))
+      subst (λ (x : Exact). Accepted (floating binary64) (times (2 ^ 925) x)) (sym (pattern-infinite 23 8 c q))
       (record { some-number = refl; no-infinity = refl; no-fraction = refl; in-range = refl; held = refl })
   | inr (inr g) ↦ absurd (true≢false (ap (λ (x : Exact). isNone (times (2 ^ 925) x)) (sym (pattern-nan 23 8 c g)) ∙ t))
 ]
 
 float-accepted : (f g : Format) (c : ℕ) → leb (fractionOf f) (fractionOf g) ≡ true → isNone (times (stepOf f) (patternOf (fractionOf f) (exponentOf f) c)) ≡ false
-    → Accepted (float g) (times (stepOf f) (patternOf (fractionOf f) (exponentOf f) c))
+    → Accepted (floating g) (times (stepOf f) (patternOf (fractionOf f) (exponentOf f) c))
 unfolding stepOf
 float-accepted binary32 binary32 c h t = accepts-float binary32 c _ t refl
 float-accepted binary32 binary64 c h t = single-accepted c t
@@ -133,15 +133,15 @@ float-accepted binary64 binary64 c h t = accepts-float binary64 c _ t refl
 room : (from to : Form) (x : Exact) → Holds from x → widens from to ≡ true → isNone x ≡ false → Accepted to x
 room (unsigned j) (unsigned k) x h w t = subst (Accepted (unsigned k)) (sym (h .2)) (accepts-unsigned k (h .0) _ (lt-of-lt-of-le (h .1) (pow-mono (leb-true j k w))) refl)
 room (unsigned j) (signed k) x h w t = subst (Accepted (signed k)) (sym (h .2)) (accepts-signed k (pos (h .0)) _ (lt-of-lt-of-le (h .1) (pow-mono (leb-true j (k - 1) w))) refl)
-room (unsigned j) (float f) x h w t = subst (Accepted (float f)) (sym (h .2)) (whole-accepted f false (h .0) j (h .1) (leb-true _ _ w))
+room (unsigned j) (floating f) x h w t = subst (Accepted (floating f)) (sym (h .2)) (whole-accepted f false (h .0) j (h .1) (leb-true _ _ w))
 room (signed j) (unsigned k) x h w t = absurd (true≢false (sym w))
 room (signed j) (signed k) x h w t = subst (Accepted (signed k)) (sym (h .2)) (accepts-signed k (h .0) _ (lt-of-lt-of-le (h .1) (pow-mono (leb-true (j - 1) (k - 1) w))) refl)
-room (signed j) (float f) x h w t =
+room (signed j) (floating f) x h w t =
     let l : j ≤ suc (fractionOf f) = leb-true _ _ w in
-    subst (Accepted (float f)) (sym (h .2)) (integer-accepted f (h .0) (suc (j - 1)) (abs-few (h .0) (j - 1) (h .1)) (omega arith))
-room (float f) (unsigned k) x h w t = absurd (true≢false (sym w))
-room (float f) (signed k) x h w t = absurd (true≢false (sym w))
-room (float f) (float g) x h w t = subst (Accepted (float g)) (sym (h .1)) (float-accepted f g (h .0) w (sym (ap isNone (h .1)) ∙ t))
+    subst (Accepted (floating f)) (sym (h .2)) (integer-accepted f (h .0) (suc (j - 1)) (abs-few (h .0) (j - 1) (h .1)) (omega arith))
+room (floating f) (unsigned k) x h w t = absurd (true≢false (sym w))
+room (floating f) (signed k) x h w t = absurd (true≢false (sym w))
+room (floating f) (floating g) x h w t = subst (Accepted (floating g)) (sym (h .1)) (float-accepted f g (h .0) w (sym (ap isNone (h .1)) ∙ t))
 
 -- ---- of values
 

@@ -12,7 +12,7 @@ use Rattle.value.specs.declared.Kind.{Kind}
 use Rattle.value.specs.declared.Kind.the-variants as kind
 use Rattle.value.specs.declared.Value.{Value}
 use Rattle.value.specs.declared.Value.the-variants.{U8, U16, U32, U64, I8, I16, I32, I64}
-use Rattle.value.specs.Kinds.{Form, unsigned, signed, float, formOf, kindOf, kindNumber}
+use Rattle.value.specs.Kinds.{Form, unsigned, signed, floating, formOf, isInteger, kindOf, kindNumber}
 use Rattle.value.specs.Meaning.{exactOf, unit, stepOf, f32Value, f64Value}
 use Rattle.value.specs.Outcome.{Outcome, gives, refusalOf}
 use Rattle.value.specs.Rules.{Rule, rule, chain}
@@ -45,11 +45,6 @@ isInfinite notNumber = false
 isInfinite (infinite s) = true
 isInfinite (finite s m) = false
 
-abbrev pub isInteger : Form → Bool
-isInteger (unsigned k) = true
-isInteger (signed k) = true
-isInteger (float f) = false
-
 -- 3: a finite number with a fraction, to an integer kind
 abbrev pub hasFraction : Exact → Bool
 hasFraction notNumber = false
@@ -64,7 +59,7 @@ outside low high false n = ltb high n
 abbrev pub outOfForm : Form → Bool → ℕ → Bool
 outOfForm (unsigned k) s m = outside 0 (2 ^ k - 1) s (m / unit)
 outOfForm (signed k) s m = outside (2 ^ (k - 1)) (2 ^ (k - 1) - 1) s (m / unit)
-outOfForm (float f) s m = ltb (largestOf (fractionOf f) (exponentOf f) * stepOf f) m
+outOfForm (floating f) s m = ltb (largestOf (fractionOf f) (exponentOf f) * stepOf f) m
 
 abbrev pub outOfRange : Form → Exact → Bool
 outOfRange form notNumber = false
@@ -75,7 +70,7 @@ outOfRange form (finite s m) = outOfForm form s m
 abbrev pub notHeldIn : Form → ℕ → Bool
 notHeldIn (unsigned k) m = false
 notHeldIn (signed k) m = false
-notHeldIn (float f) m = not (heldIn f m)
+notHeldIn (floating f) m = not (heldIn f m)
 
 abbrev pub notHeld : Form → Exact → Bool
 notHeld form notNumber = false
@@ -133,9 +128,6 @@ intoRules form x =
     ∷ rule 4 0 (outOfRange form x)
     ∷ rule 5 0 (notHeld form x)
     ∷ []
-
-unfoldable pub intoOf : Kind → Exact → Outcome Value
-intoOf to x = chain (intoRules (formOf to) x) (gives (madeIn to x))
 
 -- to its own kind every value comes back as it is
 abbrev pub ownKind : Value → Kind → Bool

@@ -1,2 +1,5 @@
+-- The definitions of this crate, in the order to read them.
+-- exact conversion: five rules in their order, and the value that has the number
 pub mod Convert
-pub mod Steps
+-- what private functions compute
+pub mod Inner

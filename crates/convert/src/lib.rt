@@ -26,7 +26,7 @@ pub enum Parts {
 }
 
 // A sign and a number that the target has, or the number of the rule that refused.
-pub enum Found {
+pub enum Fitted {
     Is(bool, u64),
     Refused(u8),
 }

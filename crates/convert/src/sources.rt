@@ -4,7 +4,7 @@ ghost use Prim.Native.Nat.{_*_, _^_, _≤_};
 ghost use lib.IntN.{pos};
 ghost use Rattle.float.specs.Number.{times};
 ghost use Rattle.value.specs.Meaning.{wholeOf, unit, exactOf};
-ghost use Rattle.convert.specs.Steps.{meaning, patternAt};
+ghost use Rattle.convert.specs.Inner.{meaning, patternAt};
 use crate::Parts;
 use value::Value;
 

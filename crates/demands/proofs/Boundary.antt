@@ -5,22 +5,24 @@ use mathlib.Core.List.{List, _++_}
 use Rattle.value.specs.declared.Kind.{Kind}
 use Rattle.value.specs.Meaning.{bitsOf}
 use Rattle.value.specs.Outcome.{done}
+use Rattle.value.proofs.Outcomes.{refused-unchanged}
 use Rattle.value.specs.Rules.{chain, By, eachOf}
 use Rattle.value.proofs.Rules.{by-chain, by-same}
 use Rattle.cmp.specs.Compare as cmp
 use Rattle.cmp.specs.Compare.{valueRules}
-use Rattle.cmp.specs.Choose as choose
-use Rattle.cmp.specs.Choose.{choiceRules, clampRules}
+use Rattle.choose.specs.Choose as choose
+use Rattle.choose.specs.Choose.{choiceRules, clampRules}
 use Rattle.convert.specs.Convert as convert
 use Rattle.convert.specs.Convert.{convertRules, convertedTo}
-use Rattle.key.specs.Key.{bufferAfter, keyOf, writeRules, writeOf, readRules, readOf}
-use Rattle.record.specs.Record.{fieldsOf, recordRules}
+use Rattle.key.specs.Key.{writeRules, writeOf, readRules, readOf}
+use Rattle.record.specs.Record.{recordRules}
 use Rattle.record.specs.Record as «record»
 use Rattle.silamogo.specs.Samples.{kindFor, valueFor}
-use Rattle.silamogo.specs.Single.{twoRules, compareOf, totalOf, minOf, maxOf, threeRules, clampOf, kindRules, convertOf, classifyOf, placeOf}
-use Rattle.silamogo.specs.Records.{samplesOf, recordFor, shapeFor, twoRecordsRules, recordsOrder, fieldRules, keyLength, keyExit, roomRules, recordRead, bitsAfter, readExit}
-use Rattle.block.specs.Samples as bytes
-use Rattle.block.specs.Migrate.{bitsTo, leftRules, answerOf}
+use Rattle.silamogo.specs.Single.{twoRules, compareOf, totalOf, minOf, maxOf, threeRules, clampOf, kindRules, convertOf, classifyOf, samplePosition}
+use Rattle.silamogo.specs.Records.{samplesOf, recordFor, shapeFor, twoRecordsRules, fieldRules, roomRules}
+use Rattle.silamogo.specs.Records.{recordsOrder, keyLength, keyExit, recordRead, readExit}
+use Rattle.sample.specs.Samples as bytes
+use Rattle.sample.specs.Refusals.{bitsTo, leftRules, answerOf}
 use Rattle.demands.specs.Boundary.{AtTheBoundary}
 use Rattle.demands.proofs.Demand1.{row-chain, through}
 
@@ -30,7 +32,7 @@ by-migrate from to input = by-same (leftRules from input ++ eachOf (λ v. conver
     (ap (chain (leftRules from input)) (row-chain (bitsTo to) (λ v. convertRules v to) (λ v. bitsOf (convertedTo v to)) (λ v. through bitsOf v to) 0 (bytes.samplesOf from input)))
 
 pub at-the-boundary : AtTheBoundary
-unfolding classifyOf placeOf compareOf totalOf minOf maxOf clampOf convertOf recordsOrder keyLength recordRead keyExit readExit cmp.compareOf cmp.totalOf choose.minOf choose.maxOf choose.clampOf convert.convertOf «record».compareOf writeOf readOf
+unfolding classifyOf samplePosition compareOf totalOf minOf maxOf clampOf convertOf recordsOrder keyLength recordRead keyExit readExit cmp.compareOf cmp.totalOf choose.minOf choose.maxOf choose.clampOf convert.convertOf «record».compareOf writeOf readOf
 at-the-boundary = record {
   classify = λ s. by-chain _ _;
   position = λ s. by-chain _ _;
@@ -44,6 +46,6 @@ at-the-boundary = record {
   write-key = λ ns bs room. by-chain (fieldRules ns bs ++ writeRules (recordFor (samplesOf ns bs)) room) _;
   read-key = λ ns key room. by-chain (roomRules ns room ++ readRules (shapeFor ns) key) _;
   migrate = by-migrate;
-  key-buffer = λ ns bs buffer n p h. ap (λ o. bufferAfter o (keyOf (fieldsOf (recordFor (samplesOf ns bs)))) buffer) h;
-  lent-bits = λ ns key bits n p h. ap (λ o. bitsAfter o bits) h;
+  key-buffer = λ ns bs buffer n p h. refused-unchanged _ buffer h;
+  lent-bits = λ ns key bits n p h. refused-unchanged _ bits h;
 }

@@ -14,12 +14,15 @@ use Rattle.float.proofs.Tests.{clash}
 use Rattle.value.specs.declared.Value.the-variants.{F32}
 use Rattle.value.specs.Meaning.{floatBits}
 use Rattle.value.specs.Outcome.{gives, refuseIf, mapped}
-use Rattle.cmp.specs.declared.Range.{Range}
-use Rattle.cmp.specs.Choose.{valueOrder, sampleOrder, clampedBy, clampOf, sampleOf}
+use Rattle.choose.specs.declared.Range.{Range}
+use Rattle.cmp.specs.Compare.{valueOrder}
+use Rattle.choose.specs.Choose.{sampleOrder, clampOf, sampleOf}
+use Rattle.choose.specs.Inner.{clampedBy}
 use Rattle.cmp.proofs.Numbers.{patterns-order}
 use Rattle.record.specs.declared.Field.{Field}
 use Rattle.record.specs.declared.Record.{Record}
-use Rattle.record.specs.Record.{fieldsOf, lexicalOf, orElse}
+use Rattle.float.specs.Order.{orElse}
+use Rattle.record.specs.Record.{fieldsOf, lexicalOf}
 use Rattle.record.specs.Record as «record»
 use Rattle.record.proofs.Given.{records-compared}
 use Rattle.row.specs.Convert.{floatOf}

@@ -12,17 +12,19 @@ use Rattle.value.specs.declared.Value.the-variants.{U8, U16, F32}
 use Rattle.value.specs.Meaning.{bitsOf}
 use Rattle.value.specs.Outcome.{Outcome, Success, gives, done, refuseIf, mapped}
 use Rattle.value.specs.Rules.{Rule, rule, chain, By, placed, eachOf, numbersOf}
+use Rattle.value.proofs.Outcomes.{refused-unchanged}
 use Rattle.value.proofs.Rules.{by-chain, by-same, by-mapped, chain-join, chain-mapped}
-use Rattle.cmp.specs.declared.Range.{Range}
+use Rattle.choose.specs.declared.Range.{Range}
 use Rattle.cmp.specs.Compare.{compareOf, totalOf}
-use Rattle.cmp.specs.Choose.{sampleOrder, unordered, minOf, maxOf, clampOf, rangeOf, sampleIn, sampleOf}
+use Rattle.cmp.specs.ByOrder.{unordered}
+use Rattle.choose.specs.Choose.{sampleOrder, minOf, maxOf, clampOf, rangeOf, sampleIn, sampleOf}
 use Rattle.convert.specs.Convert.{convertRules, convertedTo, convertOf}
-use Rattle.row.specs.Row.{sampleThen, rowAnswer, rowResults, rowExit}
+use Rattle.row.specs.Row.{sampleThen, rowAnswer}
 use Rattle.row.specs.Convert.{floatOf, u8ToU16, u16ToU8, u16ToF32, f32ToU16, lengthRules, convertAnswer, convertExit}
 use Rattle.row.specs.Clamp.{clampAnswer, clampExit}
-use Rattle.record.specs.Record.{fieldsOf, setOf, getOf, pushOf, shapeOf}
+use Rattle.record.specs.Record.{setOf, getOf, pushOf, shapeOf}
 use Rattle.record.specs.Record as «record»
-use Rattle.key.specs.Key.{keyOf, writeOf, bufferAfter, writeExit, readOf}
+use Rattle.key.specs.Key.{writeOf, writeExit, readOf}
 use Rattle.demands.specs.Demand1.{rowRules, rowClampRules, ByItsRules, InOrder, Unchanged, Demand1}
 
 -- ---- rows: the samples' chains one behind the other, each with its index
@@ -130,9 +132,9 @@ in-order = record {
 unchanged : Unchanged
 unfolding convertExit clampExit writeExit
 unchanged = record {
-  row = λ conv src dst n p h. ap (λ o. rowExit o (rowResults conv src) dst) h;
-  clamped-row = λ range row n p h. ap (λ o. rowExit o (rowResults (sampleOf range) row) row) h;
-  key-buffer = λ r buffer n p h. ap (λ o. bufferAfter o (keyOf (fieldsOf r)) buffer) h;
+  row = λ conv src dst n p h. refused-unchanged _ dst h;
+  clamped-row = λ range row n p h. refused-unchanged _ row h;
+  key-buffer = λ r buffer n p h. refused-unchanged _ buffer h;
 }
 
 pub demand-1 : Demand1

@@ -3,8 +3,9 @@ use mathlib.Core.Path.{_≡_, sym, _∙_}
 use mathlib.Core.List.{List}
 use Rattle.value.specs.Outcome.{Outcome}
 use Rattle.cmp.specs.Compare.{comparedOutcome, testedOutcome}
-use Rattle.cmp.specs.Choose.{chosenOutcome, rangedOutcome, sampledOutcome}
-use Rattle.cmp.proofs.Determined.{compared-injective, tested-injective, chosen-injective, ranged-injective, sampled-injective}
+use Rattle.choose.specs.Choose.{chosenOutcome, rangedOutcome, sampledOutcome}
+use Rattle.cmp.proofs.Determined.{compared-injective, tested-injective}
+use Rattle.choose.proofs.Determined.{chosen-injective, ranged-injective, sampled-injective}
 use Rattle.convert.specs.Convert.{convertedOutcome}
 use Rattle.convert.proofs.Determined.{converted-injective}
 use Rattle.row.specs.Row.{rowedOutcome}

@@ -7,7 +7,7 @@ use lib.Dec.{lit≤}
 use lib.IntN.{ℤ}
 use lib.Ieee.{Format, binary32, binary64}
 use Rattle.float.specs.declared.Order.the-variants.{Less, Greater}
-use Rattle.float.specs.Format.{fractionOf, exponentOf, negativeOf, infiniteOf, scaledOf}
+use Rattle.float.specs.Format.{fractionOf, exponentOf, signOf, negativeOf, infiniteOf, scaledOf}
 use Rattle.float.specs.Format as float-format
 use Rattle.float.specs.Number.{Number, number, infinityOf, times}
 use Rattle.float.specs.Number as float-number
@@ -19,9 +19,10 @@ use Rattle.float.proofs.Comparing.{compare-nan-left, compare-nan-right, pattern
 use Rattle.float.proofs.Place.{patternAt, pattern-lt, position-pattern, position-injective, position-fits}
 use Rattle.value.specs.declared.Value.{Value}
 use Rattle.value.specs.declared.Value.the-variants.{U8, U16, U32, U64, I8, I16, I32, I64, F32, F64}
-use Rattle.value.specs.Kinds.{float, formOf}
+use Rattle.value.specs.Kinds.{floating, formOf}
 use Rattle.value.specs.Meaning.{stepOf, bitsOf, exactOf, positionOf}
 use Rattle.value.specs.Outcome.{gives}
+use Rattle.value.proofs.TwosComplement.{fits-below, below-fits}
 use Rattle.cmp.specs.Compare.{compareOf, totalOf}
 use Rattle.cmp.proofs.Given.{order-compared, order-total}
 use Rattle.cmp.proofs.Numbers.{patterns-order, positions-order}
@@ -59,8 +60,8 @@ patterns p e h = record {
   infinite-infinite = λ a b i j. by-numbers p e a b (infinite-number p e a i) (infinite-number p e b j);
   finite-finite = λ a b f g. by-numbers p e a b (number-scaled p e a f) (number-scaled p e b g);
   own-position = position-injective p e;
-  position-fits = position-fits p e;
-  position-reached = λ z m. (patternAt p e z, pattern-lt p e z m, position-pattern p e z m);
+  position-fits = λ b h. below-fits (signOf p e) (float-format.positionOf p e b) (position-fits p e b h);
+  position-reached = λ z h. let m = fits-below (signOf p e) z h in (patternAt p e z, pattern-lt p e z m, position-pattern p e z m);
 }
 
 pub of-format : (f : Format) → Floats (fractionOf f) (exponentOf f)
@@ -73,7 +74,7 @@ of-format binary64 = patterns 52 11 (lit≤ tt)
 abbrev ByBits : Format → Value → Type 0
 ByBits f v = (exactOf v ≡ times (stepOf f) (patternOf (fractionOf f) (exponentOf f) (bitsOf v))) × (positionOf v ≡ float-format.positionOf (fractionOf f) (exponentOf f) (bitsOf v))
 
-by-bits : (f : Format) (v : Value) → OfForm (float f) v → ByBits f v
+by-bits : (f : Format) (v : Value) → OfForm (floating f) v → ByBits f v
 by-bits f (U8 n) q = clash cc
 by-bits f (U16 n) q = clash cc
 by-bits f (U32 n) q = clash cc
@@ -85,8 +86,8 @@ by-bits f (I64 z) q = clash cc
 by-bits f (F32 x w) q = let g : binary32 ≡ f = cc in subst (λ h. ByBits h (F32 x w)) g (refl, refl)
 by-bits f (F64 x w) q = let g : binary64 ≡ f = cc in subst (λ h. ByBits h (F64 x w)) g (refl, refl)
 
-module _ (f : Format) (a b : Value) (k : OneKind a b) (o : OfForm (float f) a) where
-  other : OfForm (float f) b
+module _ (f : Format) (a b : Value) (k : OneKind a b) (o : OfForm (floating f) a) where
+  other : OfForm (floating f) b
   other = ap formOf (sym k) ∙ o
 
   floats-compare : compareOf a b ≡ gives (float-order.compareOf (fractionOf f) (exponentOf f) (bitsOf a) (bitsOf b))

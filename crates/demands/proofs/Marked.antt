@@ -5,16 +5,19 @@ use Rattle.float.specs.Format.{absOf, classOf, magOf, scaledOf, positionOf}
 use Rattle.float.specs.Order.{patternOf}
 use Rattle.value.specs.Meaning.{floatBits, unit, stepOf}
 use Rattle.cmp.specs.Compare.{compareOf, totalOf}
-use Rattle.cmp.specs.Choose.{clampedBy, clampOf}
-use Rattle.convert.specs.Convert.{encodeOf, heldIn, madeIn, intoOf, convertOf}
+use Rattle.choose.specs.Choose.{clampOf}
+use Rattle.choose.specs.Inner.{clampedBy}
+use Rattle.convert.specs.Convert.{encodeOf, heldIn, madeIn, convertOf}
+use Rattle.convert.specs.Inner.{intoOf}
 use Rattle.record.specs.Record.{lexicalOf, shapesDiffer}
 use Rattle.record.specs.Record as «record»
-use Rattle.key.specs.Key.{bigEndian, keyOf, writeOf, writeExit, numberFrom, bytesIn, numbersIn, readOf}
+use Rattle.bytewise.specs.Numbers.{bigEndian, fromBigEndian}
+use Rattle.key.specs.Key.{keyOf, writeOf, writeExit, bytesIn, numbersIn, readOf}
 use Rattle.value.specs.Rules.{eachOf}
 use Rattle.demands.specs.Marked.{answerTo, marked, AllAnswered}
 
 pub all-answered : AllAnswered marked
 unfolding answerTo marked classOf scaledOf compareOf totalOf convertOf intoOf madeIn heldIn encodeOf clampOf clampedBy «record».compareOf lexicalOf shapesDiffer
-    writeOf writeExit eachOf keyOf bigEndian readOf numbersIn bytesIn numberFrom
+    writeOf writeExit eachOf keyOf bigEndian readOf numbersIn bytesIn fromBigEndian
     unit stepOf floatBits patternOf magOf absOf positionOf toBits ofBits ofFields odd size span climb isNan
 all-answered = refl

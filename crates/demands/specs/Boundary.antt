@@ -8,22 +8,22 @@ use Rattle.value.specs.declared.Value.{Value}
 use Rattle.value.specs.Outcome.{refuses}
 use Rattle.value.specs.Rules.{By, eachOf}
 use Rattle.cmp.specs.Compare.{valueRules}
-use Rattle.cmp.specs.Choose.{choiceRules, clampRules}
+use Rattle.choose.specs.Choose.{choiceRules, clampRules}
 use Rattle.convert.specs.Convert.{convertRules}
 use Rattle.record.specs.Record.{recordRules}
 use Rattle.key.specs.Key.{writeRules, readRules}
 use Rattle.silamogo.specs.declared.Sample.{Sample}
 use Rattle.silamogo.specs.Samples.{kindFor, valueFor}
-use Rattle.silamogo.specs.Single.{twoRules, compareOf, totalOf, minOf, maxOf, threeRules, clampOf, kindRules, convertOf, floatRules, classifyOf, placeOf}
+use Rattle.silamogo.specs.Single.{twoRules, compareOf, totalOf, minOf, maxOf, threeRules, clampOf, kindRules, convertOf, floatRules, classifyOf, samplePosition}
 use Rattle.silamogo.specs.Records.{samplesOf, recordFor, shapeFor, twoRecordsRules, recordsOrder, fieldRules, keyLength, keyExit, roomRules, recordRead, readExit}
-use Rattle.block.specs.Samples as bytes
-use Rattle.block.specs.Migrate.{leftRules, answerOf}
+use Rattle.sample.specs.Samples as bytes
+use Rattle.sample.specs.Refusals.{leftRules, answerOf}
 
 -- ---- the demand
 
 pub record AtTheBoundary : Type 0 where
   pub classify : (s : Sample) → By (floatRules s) (classifyOf s)
-  pub position : (s : Sample) → By (floatRules s) (placeOf s)
+  pub position : (s : Sample) → By (floatRules s) (samplePosition s)
   pub compare : (a b : Sample) → By (twoRules a b ++ valueRules (valueFor a) (valueFor b)) (compareOf a b)
   pub total-order : (a b : Sample) → By (twoRules a b ++ valueRules (valueFor a) (valueFor b)) (totalOf a b)
   pub min : (a b : Sample) → By (twoRules a b ++ choiceRules (valueFor a) (valueFor b)) (minOf a b)

@@ -13,9 +13,10 @@ use Rattle.value.specs.declared.Value.the-variants.{U8, U16, F32}
 use Rattle.value.specs.Kinds.{Form}
 use Rattle.value.specs.Outcome.{Outcome, refuses}
 use Rattle.value.specs.Rules.{Rule, By, eachOf, numbersOf}
-use Rattle.cmp.specs.declared.Range.{Range}
+use Rattle.choose.specs.declared.Range.{Range}
 use Rattle.cmp.specs.Compare.{valueRules, compareOf, eqOf, neOf, ltOf, leOf, gtOf, geOf, totalOf}
-use Rattle.cmp.specs.Choose.{sampleOrder, unordered, choiceRules, minOf, maxOf, clampRules, clampOf, boundsRules, rangeOf, sampleRules, sampleOf}
+use Rattle.cmp.specs.ByOrder.{unordered}
+use Rattle.choose.specs.Choose.{sampleOrder, choiceRules, minOf, maxOf, clampRules, clampOf, boundsRules, rangeOf, sampleRules, sampleOf}
 use Rattle.convert.specs.Convert.{intoRules, convertRules, convertOf}
 use Rattle.row.specs.Convert.{u8ToU16, u16ToU8, u16ToF32, f32ToU16, lengthRules, convertAnswer, convertExit}
 use Rattle.row.specs.Clamp.{clampAnswer, clampExit}

@@ -5,7 +5,6 @@ use mathlib.Core.Logic.{_↔_}
 use mathlib.Core.Bool.{Bool, true, false, cond}
 use mathlib.Core.List.{List, _∷_, _++_}
 use lib.IntN.{ℤ}
-use lib.Signed.{mag}
 use lib.ListN.{length}
 use lib.Ieee.{Float, Format}
 use Rattle.float.specs.declared.Order.{Order}
@@ -19,13 +18,14 @@ use Rattle.float.specs.ClassMeaning.{ClassMeans}
 use Rattle.value.specs.declared.Kind.{Kind}
 use Rattle.value.specs.declared.Value.{Value}
 use Rattle.value.specs.declared.Value.the-variants.{F32}
-use Rattle.value.specs.Kinds.{kindOf, Form, float, formOf}
-use Rattle.value.specs.Meaning.{bitsOf, exactOf, numberOf, positionOf, valueOf}
+use Rattle.value.specs.Kinds.{kindOf, Form, floating, formOf, isInteger}
+use Rattle.value.specs.Meaning.{fitsSigned, bitsOf, exactOf, numberOf, positionOf, valueOf}
 use Rattle.value.specs.Outcome.{Outcome, gives, refuses, mapped}
-use Rattle.cmp.specs.declared.Range.{Range}
+use Rattle.choose.specs.declared.Range.{Range}
 use Rattle.cmp.specs.Compare.{compareOf, eqOf, totalOf}
-use Rattle.cmp.specs.Choose.{valueOrder, minOf, maxOf, clampOf, sampleOf}
-use Rattle.convert.specs.Convert.{isInteger, convertOf}
+use Rattle.cmp.specs.Compare.{valueOrder}
+use Rattle.choose.specs.Choose.{minOf, maxOf, clampOf, sampleOf}
+use Rattle.convert.specs.Convert.{convertOf}
 use Rattle.record.specs.declared.Field.{Field}
 use Rattle.record.specs.declared.Record.{Record}
 use Rattle.record.specs.Record.{fieldsOf}
@@ -50,8 +50,8 @@ pub record Floats (p e : ℕ) : Type 0 where
   pub finite-finite : (a b : ℕ) → finiteOf p e a ≡ true → finiteOf p e b ≡ true → float-order.compareOf p e a b ≡ orderZ (scaledOf p e a) (scaledOf p e b)
   -- every pattern has its own position, and the positions are the signed numbers of the width
   pub own-position : (a b : ℕ) → float-format.positionOf p e a ≡ float-format.positionOf p e b → a ≡ b
-  pub position-fits : (b : ℕ) → b < 2 * signOf p e → mag (float-format.positionOf p e b) < signOf p e
-  pub position-reached : (z : ℤ) → mag z < signOf p e → (b : ℕ) × (b < 2 * signOf p e) × (float-format.positionOf p e b ≡ z)
+  pub position-fits : (b : ℕ) → b < 2 * signOf p e → fitsSigned (signOf p e) (float-format.positionOf p e b)
+  pub position-reached : (z : ℤ) → fitsSigned (signOf p e) z → (b : ℕ) × (b < 2 * signOf p e) × (float-format.positionOf p e b ≡ z)
 
 -- ---- the same of values
 
@@ -61,9 +61,9 @@ OfForm form v = formOf (kindOf v) ≡ form
 
 pub record Values : Type 0 where
   -- floats of one kind by their bits
-  pub floats-compare : (f : Format) (a b : Value) → OneKind a b → OfForm (float f) a
+  pub floats-compare : (f : Format) (a b : Value) → OneKind a b → OfForm (floating f) a
       → compareOf a b ≡ gives (float-order.compareOf (fractionOf f) (exponentOf f) (bitsOf a) (bitsOf b))
-  pub floats-total : (f : Format) (a b : Value) → OneKind a b → OfForm (float f) a
+  pub floats-total : (f : Format) (a b : Value) → OneKind a b → OfForm (floating f) a
       → totalOf a b ≡ gives (orderZ (float-format.positionOf (fractionOf f) (exponentOf f) (bitsOf a)) (float-format.positionOf (fractionOf f) (exponentOf f) (bitsOf b)))
   -- integers by their number, in both orders
   pub integers-compare : (a b : Value) → OneIntegerKind a b → compareOf a b ≡ gives (orderZ (positionOf a) (positionOf b))
@@ -86,9 +86,9 @@ pub record Conversion : Type 0 where
   pub exactly : (v : Value) (to : Kind) → Other v to → ((w : Value) × (convertOf v to ≡ gives w)) ↔ HoldsNumberOf v to
   pub same-number : (v : Value) (to : Kind) → Other v to → (w : Value) → convertOf v to ≡ gives w → (kindOf w ≡ to) × (numberOf w ≡ numberOf v)
   -- between float kinds infinities and zeros keep their sign
-  pub sign-kept : (v : Value) (to : Kind) (f : Format) → Other v to → formOf to ≡ float f → (w : Value) → convertOf v to ≡ gives w → exactOf w ≡ exactOf v
+  pub sign-kept : (v : Value) (to : Kind) (f : Format) → Other v to → formOf to ≡ floating f → (w : Value) → convertOf v to ≡ gives w → exactOf w ≡ exactOf v
   -- "infinities pass only between float kinds, NaN never"
-  pub infinity-passes : (v : Value) (to : Kind) (s : Bool) (f : Format) → Other v to → exactOf v ≡ infinite s → formOf to ≡ float f
+  pub infinity-passes : (v : Value) (to : Kind) (s : Bool) (f : Format) → Other v to → exactOf v ≡ infinite s → formOf to ≡ floating f
       → (w : Value) × (convertOf v to ≡ gives w) × (exactOf w ≡ infinite s)
   pub infinity-stops : (v : Value) (to : Kind) (s : Bool) → Other v to → exactOf v ≡ infinite s → isInteger (formOf to) ≡ true → convertOf v to ≡ refuses 2 0
   pub nan-never : (v : Value) (to : Kind) → Other v to → exactOf v ≡ notNumber → convertOf v to ≡ refuses 1 0

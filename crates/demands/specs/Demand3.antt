@@ -11,7 +11,8 @@ use Rattle.record.specs.declared.Record.{Record}
 use Rattle.record.specs.declared.Shape.{Shape}
 use Rattle.record.specs.Record.{compareOf}
 use Rattle.key.specs.Key.{writeOf, writeExit, readOf}
-use Rattle.key.specs.Theorem.{Bytes, Usable, OfShape, recordKey, normalRecord}
+use Rattle.bytewise.specs.Numbers.{Bytes}
+use Rattle.key.specs.Keyed.{Usable, OfShape, recordKey, normalRecord}
 
 -- two lists differ at i, and not before
 pub record DifferAt (i : ℕ) (k l : List ℕ) : Type 0 where

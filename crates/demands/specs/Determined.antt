@@ -9,12 +9,12 @@ use Rattle.value.specs.declared.Value.{Value}
 use Rattle.value.specs.Outcome.{Outcome, Success}
 use Rattle.cmp.specs.declared.Compared.{Compared}
 use Rattle.cmp.specs.declared.Tested.{Tested}
-use Rattle.cmp.specs.declared.Chosen.{Chosen}
-use Rattle.cmp.specs.declared.Range.{Range}
-use Rattle.cmp.specs.declared.Ranged.{Ranged}
-use Rattle.cmp.specs.declared.Sampled.{Sampled}
+use Rattle.choose.specs.declared.Chosen.{Chosen}
+use Rattle.choose.specs.declared.Range.{Range}
+use Rattle.choose.specs.declared.Ranged.{Ranged}
+use Rattle.choose.specs.declared.Sampled.{Sampled}
 use Rattle.cmp.specs.Compare.{comparedOutcome, testedOutcome}
-use Rattle.cmp.specs.Choose.{chosenOutcome, rangedOutcome, sampledOutcome}
+use Rattle.choose.specs.Choose.{chosenOutcome, rangedOutcome, sampledOutcome}
 use Rattle.convert.specs.declared.Converted.{Converted}
 use Rattle.convert.specs.Convert.{convertedOutcome}
 use Rattle.row.specs.declared.Rowed.{Rowed}

@@ -16,7 +16,7 @@ use Rattle.value.specs.declared.Value.the-variants.{U8, U16, U32, U64, I8, I16,
 use Rattle.value.specs.Meaning.{f32Value, f64Value}
 use Rattle.value.specs.Outcome.{Outcome, gives, refuses}
 use Rattle.cmp.specs.Compare.{compareOf, totalOf}
-use Rattle.cmp.specs.Choose.{clampOf}
+use Rattle.choose.specs.Choose.{clampOf}
 use Rattle.convert.specs.Convert.{convertOf}
 use Rattle.record.specs.declared.Record.{Record}
 use Rattle.record.specs.Record.{fieldFor, recordOf, shapeFor}

@@ -7,7 +7,7 @@ use Prim.Native.Nat.{ℕ, zero, suc, _+_, _*_, _/_, _%_, _^_, _≤_, _<_}
 use native.Mathlib.Nat.{mul-one}
 use native.Mathlib.Omega.{arith}
 use borrow.Author.Tests.{lt-ltb, le-ltb, lt-leb, le-leb, eq-eqb, ne-eqb}
-use lib.Dec.{T, ltb, eqb, leb}
+use lib.Dec.{T, ltb, eqb, leb, lit<}
 use lib.IntN.{ℤ}
 use lib.Ieee.{Float, nan, inf, fin, Format, binary32, binary64, prec, low, up, down, hid, ones, top, odd, ofFields, ofBits, toBits, isNan, fits}
 use lib.Ieee.Exact.{HasValue, odd-sign}
@@ -64,6 +64,10 @@ fraction-rest binary32 b = omega arith
 fraction-rest binary64 b = omega arith
 
 -- above, at and below the infinity's abs
+pub infinity-positive : (f : Format) → 0 < infOf (fractionOf f) (exponentOf f)
+infinity-positive binary32 = lit< tt
+infinity-positive binary64 = lit< tt
+
 fields-above : (f : Format) (x : ℕ) → x < top f → infOf (fractionOf f) (exponentOf f) < x → (x / 2 ^ fractionOf f ≡ ones f) × (x % 2 ^ fractionOf f ≡ 0 → ⊥)
 fields-above binary32 x h l = (omega arith, λ q. omega arith)
 fields-above binary64 x h l = (omega arith, λ q. omega arith)

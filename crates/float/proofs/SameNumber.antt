@@ -1,13 +1,21 @@
 -- Two numbers compare Equal exactly when they are one number.
 use mathlib.Core.Path.{_≡_, refl, sym, ap}
+use mathlib.Core.Bool.{true}
 use mathlib.Core.Logic.{inl, inr}
 use Prim.Native.Nat.{ℕ}
 use lib.IntN.{ℤ, pos, negsuc}
 use Rattle.float.specs.Number.{Number, none, minusInfinity, plusInfinity, number}
-use Rattle.float.specs.Order.{orderN, orderZ, orderOf}
-use Rattle.float.specs.declared.Order.the-variants.{Equal}
+use Rattle.float.specs.Order.{orderN, orderZ, orderOf, isEqual}
+use Rattle.float.specs.declared.Order.{Order}
+use Rattle.float.specs.declared.Order.the-variants.{Less, Equal, Greater, Unordered}
 use Rattle.float.proofs.Naturals.{three-ways, order-less, order-greater, order-equal}
 use Rattle.float.proofs.Tests.{clash}
+
+pub is-equal : (o : Order) → isEqual o ≡ true → o ≡ Equal
+is-equal Less h = cc
+is-equal Equal h = refl
+is-equal Greater h = cc
+is-equal Unordered h = cc
 
 equal-naturals : (m n : ℕ) → orderN m n ≡ Equal → m ≡ n
 equal-naturals m n h = elim (three-ways m n) [

@@ -16,6 +16,13 @@ orderN m n = cond (ltb m n) Less (cond (ltb n m) Greater Equal)
 abbrev pub orderZ : ℤ → ℤ → Order
 orderZ m n = cond (ltZ m n) Less (cond (ltZ n m) Greater Equal)
 
+-- the first order that is not Equal decides
+abbrev pub orElse : Order → Order → Order
+orElse Less o = Less
+orElse Equal o = o
+orElse Greater o = Greater
+orElse Unordered o = Unordered
+
 -- no number on either side is Unordered; infinities lie outside all numbers and equal themselves; else the numbers decide
 abbrev pub orderOf : Number → Number → Order
 orderOf none y = Unordered

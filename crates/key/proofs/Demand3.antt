@@ -15,7 +15,7 @@ use Rattle.float.proofs.Tests.{neither}
 use Rattle.value.specs.declared.Kind.{Kind}
 use Rattle.value.specs.declared.Value.the-variants.{U8}
 use Rattle.value.specs.Kinds.{kindOf}
-use Rattle.value.specs.Outcome.{Outcome, gives, mapped}
+use Rattle.value.specs.Outcome.{Outcome, gives, mapped, lentAfter}
 use Rattle.value.specs.Rules.{chain, eachOf}
 use Rattle.value.proofs.Outcomes.{refuse-passes}
 use Rattle.record.specs.declared.Field.{Field}
@@ -24,12 +24,13 @@ use Rattle.record.specs.declared.Record.{Record}
 use Rattle.record.specs.declared.Shape.{Shape}
 use Rattle.record.specs.Record.{fieldFor, fieldsOf, badCount, lexicalOf, compareOf, kindsIn, kindsOf, recordOf}
 use Rattle.record.proofs.Given.{kinds-shape}
-use Rattle.key.specs.Key.{keyOf, nanRules, writeOf, bufferAfter, writeExit, bytesIn, readOf}
-use Rattle.key.specs.Steps.{readFields}
-use Rattle.key.specs.Prefix.{bytesOrder}
-use Rattle.key.specs.Theorem.{Bytes, AllKeyed, none, more, normalRecord, recordKey, Usable, OfShape}
+use Rattle.key.specs.Key.{keyOf, nanRules, writeOf, writeExit, bytesIn, readOf}
+use Rattle.key.specs.Inner.{readFields}
+use Rattle.bytewise.specs.Order.{bytesOrder}
+use Rattle.bytewise.specs.Numbers.{Bytes}
+use Rattle.key.specs.Keyed.{AllKeyed, none, more, normalRecord, recordKey, Usable, OfShape}
 use Rattle.key.proofs.Passing.{mapped-gives, read-by}
-use Rattle.key.proofs.Bytes.{first-difference}
+use Rattle.bytewise.proofs.BigEndian.{first-difference}
 use Rattle.key.proofs.FieldLists.{keys-order, same-keys, key-length, key-bytes, read-written, FieldsFor, written-read}
 
 -- ---- counts and lengths
@@ -95,7 +96,7 @@ module _ (s : Shape) (r : Record) (u : Usable s) (h : OfShape s r) (old : List �
 
   pub buffer-written : writeExit r old ≡ recordKey r ++ drop (length (recordKey r)) old
   unfolding writeExit
-  buffer-written = ap (λ (o : Outcome ℕ). bufferAfter o (recordKey r) old) written
+  buffer-written = ap (λ (o : Outcome ℕ). lentAfter (λ n. recordKey r) o old) written
 
 -- ---- reading the key of a record gives it with minus zero made plus zero and unused places reset
 

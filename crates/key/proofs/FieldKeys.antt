@@ -4,7 +4,6 @@ use mathlib.Core.Path.{_≡_, refl, sym, ap, _∙_, subst}
 use mathlib.Core.Bool.{false}
 use Prim.Native.Nat.{ℕ, _%_, _-_, _^_, _<_}
 use native.Mathlib.Nat.{mod-eq-of-lt}
-use lib.Signed.{mag}
 use lib.IntN.{ℤ, pos, negsuc}
 use lib.Ieee.{Format, binary32, binary64}
 use lib.Ieee.Bits.{ofBits-fits}
@@ -17,18 +16,18 @@ use Rattle.value.specs.declared.Kind.the-variants as kind
 use Rattle.value.specs.declared.Value.{Value}
 use Rattle.value.specs.declared.Value.the-variants.{U8, U16, U32, U64, I8, I16, I32, I64, F32, F64}
 use Rattle.value.specs.Kinds.{formOf, kindOf, bytesOf}
-use Rattle.value.specs.Meaning.{Content, natural, integer, real, contentOf, wholeOf, unit, exactIn, valueOf}
-use Rattle.cmp.specs.Choose.{valueOrder}
+use Rattle.value.specs.Meaning.{Content, natural, integer, real, contentOf, fitsSigned, wholeOf, unit, exactIn, valueOf}
+use Rattle.cmp.specs.Compare.{valueOrder}
 use Rattle.cmp.proofs.Numbers.{integers-order}
 use Rattle.key.specs.Key.{keyIn, keyNumber, bitsFrom, notCanonical}
-use Rattle.key.specs.Theorem.{InRange, Keyed, normal}
+use Rattle.key.specs.Keyed.{InRange, Keyed, normal}
 use Rattle.key.proofs.Ranges.{formIn, content-form}
 use Rattle.key.proofs.SignedKeys.{shifted-order, shifted-below, shifted-read, read-shifted}
 use Rattle.key.proofs.FloatFields.{float-below, float-canonical, float-read, word-read, float-order, made-some, made-key}
 
 -- ---- the order
 
-signed-order : (k : ℕ) (y z : ℤ) → mag y < 2 ^ (k - 1) → mag z < 2 ^ (k - 1)
+signed-order : (k : ℕ) (y z : ℤ) → fitsSigned (2 ^ (k - 1)) y → fitsSigned (2 ^ (k - 1)) z
     → orderN (keyIn (integer k y)) (keyIn (integer k z)) ≡ orderOf (float-number.numberOf (exactIn (integer k y))) (float-number.numberOf (exactIn (integer k z)))
 signed-order k y z h l = shifted-order (2 ^ (k - 1)) y z h l ∙ integers-order y z
 
@@ -99,7 +98,7 @@ unsigned-write v k n h q =
     let r : contentOf v ≡ natural k n = q ∙ ap (natural k) (mod-eq-of-lt h) in
     record { keyed = record { in-range = subst InRange (sym r) h; some-number = ap (λ (c : Content). isNone (exactIn c)) r }; number-is = ap keyIn r }
 
-signed-write : (v : Value) (k n : ℕ) {z : ℤ} → (mag z < 2 ^ (k - 1)) × (keyIn (integer k z) ≡ n) → contentOf v ≡ integer k z → Writes n v
+signed-write : (v : Value) (k n : ℕ) {z : ℤ} → fitsSigned (2 ^ (k - 1)) z × (keyIn (integer k z) ≡ n) → contentOf v ≡ integer k z → Writes n v
 signed-write v k n {z} h q =
     record { keyed = record { in-range = subst InRange (sym q) (h .0); some-number = ap (λ (c : Content). isNone (exactIn c)) q ∙ whole-some z }; number-is = ap keyIn q ∙ h .1 }
 

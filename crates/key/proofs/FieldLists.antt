@@ -18,15 +18,19 @@ use Rattle.value.specs.Meaning.{valueOf}
 use Rattle.value.specs.Outcome.{gives}
 use Rattle.value.proofs.MadeValues.{value-kind}
 use Rattle.value.proofs.Outcomes.{refuse-passes}
-use Rattle.cmp.specs.Choose.{valueOrder}
+use Rattle.cmp.specs.Compare.{valueOrder}
 use Rattle.record.specs.declared.Field.{Field}
-use Rattle.record.specs.Record.{fieldFor, orElse, lexicalOf, kindsOf}
-use Rattle.key.specs.Key.{keyNumber, bigEndian, fieldKey, keyOf, numberFrom, bitsFrom, notCanonical, bytesIn}
-use Rattle.key.specs.Steps.{readFields}
-use Rattle.key.specs.Prefix.{bytesOrder}
-use Rattle.key.specs.Theorem.{Bytes, Keyed, AllKeyed, none, more, normalFields}
+use Rattle.float.specs.Order.{orElse}
+use Rattle.record.specs.Record.{fieldFor, lexicalOf, kindsOf}
+use Rattle.bytewise.specs.Numbers.{bigEndian, fromBigEndian}
+use Rattle.key.specs.Key.{keyNumber, fieldKey, keyOf, bitsFrom, notCanonical, bytesIn}
+use Rattle.key.specs.Inner.{readFields}
+use Rattle.bytewise.specs.Order.{bytesOrder}
+use Rattle.bytewise.specs.Numbers.{Bytes}
+use Rattle.bytewise.specs.Numbers as numbers
+use Rattle.key.specs.Keyed.{Keyed, AllKeyed, none, more, normalFields}
 use Rattle.key.proofs.Passing.{mapped-gives, read-none, read-more}
-use Rattle.key.proofs.Bytes.{bytes-append, bytes-big, bytes-take, bytes-drop, length-big, number-big, big-number, number-below, order-append, order-big, equal-bytes, bytes-equal}
+use Rattle.bytewise.proofs.BigEndian.{bytes-append, bytes-big, bytes-take, bytes-drop, length-big, number-big, big-number, number-below, order-append, order-big, equal-bytes, bytes-equal}
 use Rattle.key.proofs.FieldKeys.{field-order, field-read, field-write}
 
 field-length : (v : Value) → length (fieldKey v) ≡ bytesOf (kindOf v)
@@ -67,7 +71,7 @@ same-keys {xs} {ys} a b q = (
 
 pub key-bytes : (xs : List Field) → Bytes (keyOf xs)
 unfolding keyOf
-key-bytes [] = none
+key-bytes [] = numbers.none
 key-bytes (x ∷ xs) = bytes-append (bytes-big (bytesOf (kindOf (x .value))) (keyNumber (x .value))) (key-bytes xs)
 
 pub key-length : (xs : List Field) → length (keyOf xs) ≡ bytesIn (kindsOf xs)
@@ -100,12 +104,12 @@ pub record FieldsFor (ks : List Kind) (key : List ℕ) (fs : List Field) : Type 
 
 -- one field more
 field-more : (k : Kind) (ks : List Kind) (key : List ℕ) (gs : List Field) → Bytes key → bytesOf k ≤ length key
-    → notCanonical (formOf k) (numberFrom 0 (take (bytesOf k) key)) ≡ false → FieldsFor ks (drop (bytesOf k) key) gs
-    → FieldsFor (k ∷ ks) key (fieldFor (valueOf k (bitsFrom (formOf k) (numberFrom 0 (take (bytesOf k) key)))) ∷ gs)
+    → notCanonical (formOf k) (fromBigEndian 0 (take (bytesOf k) key)) ≡ false → FieldsFor ks (drop (bytesOf k) key) gs
+    → FieldsFor (k ∷ ks) key (fieldFor (valueOf k (bitsFrom (formOf k) (fromBigEndian 0 (take (bytesOf k) key)))) ∷ gs)
 unfolding keyOf
 field-more k ks key gs b l c r =
     let front = bytes-take (bytesOf k) b in
-    let n = numberFrom 0 (take (bytesOf k) key) in
+    let n = fromBigEndian 0 (take (bytesOf k) key) in
     let is : length (take (bytesOf k) key) ≡ bytesOf k = length-take-le (bytesOf k) key l in
     let small : n < 256 ^ bytesOf k = subst (λ (m : ℕ). n < 256 ^ m) is (number-below front) in
     let w = field-write k n small c in
@@ -124,7 +128,7 @@ written-read at [] [] b l fs e =
     subst (λ (gs : List Field). FieldsFor [] [] gs) q (record { key-is = refl; kinds-are = refl; keyed = none })
 written-read at [] (x ∷ key) b l fs e = absurd (omega arith)
 written-read at (k ∷ ks) key b l fs e =
-    let c = refuse-passes (notCanonical (formOf k) (numberFrom 0 (take (bytesOf k) key))) 12 at _ fs (sym (read-more at k ks key) ∙ e) in
+    let c = refuse-passes (notCanonical (formOf k) (fromBigEndian 0 (take (bytesOf k) key))) 12 at _ fs (sym (read-more at k ks key) ∙ e) in
     let m = mapped-gives _ (readFields (suc at) ks (drop (bytesOf k) key)) (c .1) in
     let r = written-read (suc at) ks (drop (bytesOf k) key) (bytes-drop (bytesOf k) b) (length-drop (bytesOf k) key ∙ omega arith) (m .0) (m .1) in
     subst (λ (gs : List Field). FieldsFor (k ∷ ks) key gs) (m .2) (field-more k ks key (m .0) b (omega arith) (c .0) r)

@@ -3,7 +3,6 @@ use mathlib.Core.Path.{_≡_, refl, sym, ap, _∙_, subst}
 use mathlib.Core.Bool.{Bool, true, false, not, cond, true≢false}
 use Prim.Native.Nat.{ℕ, _+_, _-_, _*_, _%_, _^_, _<_}
 use native.Mathlib.Nat.{mod-eq-of-lt}
-use native.Mathlib.Omega.{arith}
 use borrow.Author.Tests.{ltb-true, eqb-false}
 use lib.Dec.{T, eqb}
 use lib.Ieee.{Float, Format, binary32, binary64, isNan, fits, toBits, ofBits, top}
@@ -13,14 +12,14 @@ use Rattle.float.specs.Number.{Exact, notNumber, isNone, times}
 use Rattle.float.specs.Order.{orderN, orderOf, patternOf}
 use Rattle.float.specs.Number as float-number
 use Rattle.float.proofs.Comparing.{pattern-nan}
-use Rattle.float.proofs.Language.{times-none, nan-pattern, nan-float}
+use Rattle.float.proofs.Language.{times-none, infinity-positive, nan-pattern, nan-float}
 use Rattle.float.proofs.Tests.{neither}
-use Rattle.value.specs.Kinds.{float}
+use Rattle.value.specs.Kinds.{floating}
 use Rattle.value.specs.Meaning.{Content, real, stepOf, exactIn, floatBits, nanWord, wordFor}
 use Rattle.value.proofs.FloatBits.{bits-number, bits-nan, word-nan, word-other, word-none, bits-pattern}
 use Rattle.cmp.proofs.Numbers.{patterns-order}
 use Rattle.key.specs.Key.{floatKey, patternFrom, keyIn, notCanonical}
-use Rattle.key.specs.Theorem.{plusZero}
+use Rattle.key.specs.Keyed.{plusZero}
 use Rattle.key.proofs.FloatKeys.{key-below, key-order, from-below, from-key, key-canonical, key-from}
 
 -- ---- the two formats
@@ -31,10 +30,6 @@ top-sign binary64 = refl
 
 below-top : (f : Format) (b : ℕ) → b < 2 * signOf (fractionOf f) (exponentOf f) → b < 2 * top f
 below-top f b h = rw (top-sign f) h
-
-some-infinity : (f : Format) → 0 < infOf (fractionOf f) (exponentOf f)
-some-infinity binary32 = omega arith
-some-infinity binary64 = omega arith
 
 -- ---- a NaN has no number
 
@@ -79,7 +74,7 @@ module _ (f : Format) (x : Float) (w : ℕ) (h : T (fits f x)) (s : isNone (exac
   pub float-below : keyIn (real f x w) < 2 * signOf (fractionOf f) (exponentOf f)
   float-below = key-below (fractionOf f) (exponentOf f) (floatBits f x w) held-below
 
-  pub float-canonical : notCanonical (float f) (keyIn (real f x w)) ≡ false
+  pub float-canonical : notCanonical (floating f) (keyIn (real f x w)) ≡ false
   float-canonical = key-canonical (fractionOf f) (exponentOf f) (floatBits f x w) held-below held-number
 
   -- what is read of the key; valueOf takes the rest by the number of patterns
@@ -104,13 +99,13 @@ module _ (f : Format) (x : Float) (w : ℕ) (h : T (fits f x)) (s : isNone (exac
 pub float-order : (f : Format) (x y : Float) (v w : ℕ) → T (fits f x) → T (fits f y) → isNone (exactIn (real f x v)) ≡ false → isNone (exactIn (real f y w)) ≡ false
     → orderN (keyIn (real f x v)) (keyIn (real f y w)) ≡ orderOf (float-number.numberOf (exactIn (real f x v))) (float-number.numberOf (exactIn (real f y w)))
 float-order f x y v w h k s t =
-    key-order (fractionOf f) (exponentOf f) (floatBits f x v) (floatBits f y w) (some-infinity f)
+    key-order (fractionOf f) (exponentOf f) (floatBits f x v) (floatBits f y w) (infinity-positive f)
     (held-below f x v h s) (held-below f y w k t) (held-number f x v h s) (held-number f y w k t)
     ∙ patterns-order f (floatBits f x v) (floatBits f y w)
 
 -- ---- the float of a canonical number
 
-module _ (f : Format) (n : ℕ) (h : n < 2 * signOf (fractionOf f) (exponentOf f)) (c : notCanonical (float f) n ≡ false) where
+module _ (f : Format) (n : ℕ) (h : n < 2 * signOf (fractionOf f) (exponentOf f)) (c : notCanonical (floating f) n ≡ false) where
   abbrev madeBits : ℕ
   madeBits = patternFrom (signOf (fractionOf f) (exponentOf f)) n % (2 * signOf (fractionOf f) (exponentOf f))
 

@@ -12,7 +12,7 @@ use Rattle.value.specs.declared.Value.the-variants.{U16, I16}
 use Rattle.value.specs.Meaning.{f32Value, floatBits, stepOf, unit}
 use Rattle.record.specs.declared.Field.{Field}
 use Rattle.record.specs.Record.{fieldFor, shapeFor, recordOf}
-use Rattle.key.specs.Theorem.{none, more, OfShape, Usable}
+use Rattle.key.specs.Keyed.{none, more, OfShape, Usable}
 
 abbrev three : List Field
 three = fieldFor (U16 258) ∷ fieldFor (I16 (negsuc 0)) ∷ fieldFor (f32Value 0xbf80_0000) ∷ []

@@ -7,9 +7,9 @@ use native.Mathlib.Numerals.{add-one, sub-one}
 use native.Mathlib.Omega.{arith}
 use lib.ListN.{length, take, drop, getD, set, length-append, length-drop, length-set, take-append-drop}
 use lib.Seq.{length-take-le, take-at, drop-at, drop-drop, take-set-le, set-split, take-suc, getD-drop}
-use Rattle.key.specs.Key.{bigEndian, numberFrom}
-use Rattle.key.specs.Steps.{put}
-use Rattle.key.proofs.Bytes.{length-big, number-snoc}
+use Rattle.bytewise.specs.Numbers.{bigEndian, fromBigEndian}
+use Rattle.key.specs.Inner.{put}
+use Rattle.bytewise.proofs.BigEndian.{length-big, number-snoc}
 
 -- ---- laying bytes
 
@@ -77,10 +77,10 @@ module _ (to width n : ℕ) (old : List ℕ) where
 
 module _ (key : List ℕ) (from width : ℕ) where
   abbrev pub Gathered : ℕ → ℕ → Type 0
-  Gathered m i = (i ≤ width) × (m ≡ numberFrom 0 (take i (drop from key))) × (m < 256 ^ i)
+  Gathered m i = (i ≤ width) × (m ≡ fromBigEndian 0 (take i (drop from key))) × (m < 256 ^ i)
 
   pub gather-none : Gathered 0 0
-  unfolding numberFrom
+  unfolding fromBigEndian
   gather-none = (omega arith, refl, omega arith)
 
   module _ (m i x : ℕ) (g : Gathered m i) (h : i < width) (b : x < 256) where
@@ -98,5 +98,5 @@ module _ (key : List ℕ) (from width : ℕ) where
       next-below,
     )
 
-  pub gather-end : (m i : ℕ) → width ≤ i → Gathered m i → (m ≡ numberFrom 0 (take width (drop from key))) × (m < 256 ^ width)
+  pub gather-end : (m i : ℕ) → width ≤ i → Gathered m i → (m ≡ fromBigEndian 0 (take width (drop from key))) × (m < 256 ^ width)
   gather-end m i h g = let q : i ≡ width = omega arith in rw (← q) (g .1, g .2)

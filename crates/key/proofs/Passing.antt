@@ -10,13 +10,13 @@ use Rattle.value.specs.declared.Kind.{Kind}
 use Rattle.value.specs.Kinds.{formOf, bytesOf}
 use Rattle.value.specs.Meaning.{valueOf}
 use Rattle.value.specs.Outcome.{Outcome, gives, refuses, refuseIf, mapped}
-use Rattle.value.specs.Rules.{rule, eachOf}
+use Rattle.value.specs.Rules.{eachOf}
 use Rattle.value.proofs.Rules.{chain-mapped}
-use Rattle.record.specs.declared.Field.{Field}
 use Rattle.record.specs.declared.Shape.{Shape}
 use Rattle.record.specs.Record.{fieldFor, badCount, kindsIn, recordOf}
-use Rattle.key.specs.Key.{numberFrom, bitsFrom, notCanonical, bytesIn, numbersIn, canonicalRules, fieldsFrom, readOf}
-use Rattle.key.specs.Steps.{readFields, fieldThen}
+use Rattle.bytewise.specs.Numbers.{fromBigEndian}
+use Rattle.key.specs.Key.{bitsFrom, notCanonical, bytesIn, numbersIn, canonicalRules, fieldsFrom, readOf}
+use Rattle.key.specs.Inner.{readFields, fieldThen}
 
 pub mapped-gives : {A B : Type 0} (f : A → B) (o : Outcome A) {b : B} → mapped f o ≡ gives b → (a : A) × (o ≡ gives a) × (f a ≡ b)
 mapped-gives f (gives a) h = (a, refl, cc)
@@ -29,10 +29,10 @@ unfolding readFields numbersIn eachOf
 read-none at key = refl
 
 pub read-more : (at : ℕ) (k : Kind) (ks : List Kind) (key : List ℕ)
-    → readFields at (k ∷ ks) key ≡ fieldThen at k (numberFrom 0 (take (bytesOf k) key)) (readFields (suc at) ks (drop (bytesOf k) key))
+    → readFields at (k ∷ ks) key ≡ fieldThen at k (fromBigEndian 0 (take (bytesOf k) key)) (readFields (suc at) ks (drop (bytesOf k) key))
 unfolding readFields numbersIn eachOf
 read-more at k ks key =
-    let n : ℕ = numberFrom 0 (take (bytesOf k) key) in
+    let n : ℕ = fromBigEndian 0 (take (bytesOf k) key) in
     let rest : List (Kind × ℕ) = numbersIn ks (drop (bytesOf k) key) in
     ap (refuseIf (notCanonical (formOf k) n) 12 at) (sym (chain-mapped (λ fs. fieldFor (valueOf k (bitsFrom (formOf k) n)) ∷ fs) (canonicalRules (suc at) rest) (gives (fieldsFrom rest))))
 

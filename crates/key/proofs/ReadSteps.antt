@@ -26,11 +26,12 @@ use Rattle.record.specs.declared.Shape.{Shape}
 use Rattle.record.specs.Record.{fieldFor, blank, badCount, kindsIn, recordOf, recordedOf}
 use Rattle.record.proofs.Deciding.{good-count}
 use Rattle.record.proofs.Shape as shape-type
-use Rattle.key.specs.declared.Layout.{Layout}
-use Rattle.key.specs.Key.{numberFrom, bitsFrom, notCanonical, bytesIn, readOf}
-use Rattle.key.specs.Steps.{layoutFor, bitsIn, foreignIn, readFields}
+use Rattle.key.specs.declared.Weights.{Weights}
+use Rattle.bytewise.specs.Numbers.{fromBigEndian}
+use Rattle.key.specs.Key.{bitsFrom, notCanonical, bytesIn, readOf}
+use Rattle.key.specs.Inner.{weightsFor, bitsByWeights, foreignIn, readFields}
 use Rattle.key.proofs.Passing.{mapped-gives, read-none, read-more, read-by}
-use Rattle.key.proofs.Ranges.{kind-sized}
+use Rattle.value.proofs.Widths.{kind-sized}
 use Rattle.key.proofs.KeyNumbers.{form-bits, form-foreign}
 
 pub twelve-places : (s : Shape) → length ((shape-type.the-type .to s) .0) ≡ 12 → length (s .places) ≡ 12
@@ -85,7 +86,7 @@ read-length at [] key fs e =
     let q : fs ≡ [] = cc in
     ap length q
 read-length at (k ∷ ks) key fs e =
-    then-length (notCanonical (formOf k) (numberFrom 0 (take (bytesOf k) key))) 12 at (fieldFor (valueOf k (bitsFrom (formOf k) (numberFrom 0 (take (bytesOf k) key)))))
+    then-length (notCanonical (formOf k) (fromBigEndian 0 (take (bytesOf k) key))) 12 at (fieldFor (valueOf k (bitsFrom (formOf k) (fromBigEndian 0 (take (bytesOf k) key)))))
     (readFields (suc at) ks (drop (bytesOf k) key)) fs (length ks) (λ gs q. read-length (suc at) ks (drop (bytesOf k) key) gs q) (sym (read-more at k ks key) ∙ e)
 
 -- ---- where the passes stand
@@ -155,12 +156,12 @@ module _ (s : Shape) (few : s .count ≤ 12) (twelve : length (s .places) ≡ 12
       pub read-room : (w ≤ 8) × (from + w ≤ length key)
       read-room = (w-is .2, omega (arith, bytes-left, filled .1, w-is .0))
 
-      module _ {n : ℕ} (n-is : n ≡ numberFrom 0 (take w (drop from key))) {l : Layout} (l-is : l ≡ layoutFor (formOf k)) {b : ℕ} (b-is : b ≡ bitsIn l n) {t : Bool} (t-is : t ≡ foreignIn l b) where
+      module _ {n : ℕ} (n-is : n ≡ fromBigEndian 0 (take w (drop from key))) {l : Weights} (l-is : l ≡ weightsFor (formOf k)) {b : ℕ} (b-is : b ≡ bitsByWeights l n) {t : Bool} (t-is : t ≡ foreignIn l b) where
         own-bits : b ≡ bitsFrom (formOf k) n
-        own-bits = b-is ∙ ap (λ (i : Layout). bitsIn i n) l-is ∙ form-bits (formOf k) n (kind-sized k)
+        own-bits = b-is ∙ ap (λ (i : Weights). bitsByWeights i n) l-is ∙ form-bits (formOf k) n (kind-sized k)
 
         own-test : t ≡ notCanonical (formOf k) n
-        own-test = t-is ∙ ap (foreignIn l) b-is ∙ ap (λ (i : Layout). foreignIn i (bitsIn i n)) l-is ∙ form-foreign (formOf k) n
+        own-test = t-is ∙ ap (foreignIn l) b-is ∙ ap (λ (i : Weights). foreignIn i (bitsByWeights i n)) l-is ∙ form-foreign (formOf k) n
 
         abbrev rest : Outcome (List Field)
         rest = readFields (suc at) (drop (suc at) ks) (drop (from + w) key)

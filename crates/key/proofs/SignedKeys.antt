@@ -6,10 +6,9 @@ use Prim.Native.Nat.{ℕ, suc, _+_, _-_, _*_, _%_, _≤_, _<_}
 use native.Mathlib.Nat.{mod-eq-of-lt, add-mod-right, mod-mod}
 use native.Mathlib.Omega.{arith}
 use lib.IntN.{ℤ, pos, negsuc, natAbs}
-use lib.Signed.{mag}
 use Rattle.float.specs.Order.{orderN, orderZ}
 use Rattle.float.proofs.Naturals.{lt-or-ge, three-ways, order-less, order-greater, order-equal}
-use Rattle.value.specs.Meaning.{fromTwos}
+use Rattle.value.specs.Meaning.{fitsSigned, fromTwos}
 use Rattle.value.proofs.TwosComplement.{from-low, from-high}
 use Rattle.key.specs.Key.{shifted}
 
@@ -37,14 +36,14 @@ module _ (h : ℕ) where
   none-left-out (pos n) = refl
   none-left-out (negsuc n) = omega arith
 
-  reaches : (z : ℤ) → mag z < h → natAbs z + 0 ≤ h
+  reaches : (z : ℤ) → fitsSigned h z → natAbs z + 0 ≤ h
   reaches (pos n) l = omega arith
   reaches (negsuc n) l = omega arith
 
-  pub shifted-order : (y z : ℤ) → mag y < h → mag z < h → orderN (shifted h y) (shifted h z) ≡ orderZ y z
+  pub shifted-order : (y z : ℤ) → fitsSigned h y → fitsSigned h z → orderN (shifted h y) (shifted h z) ≡ orderZ y z
   shifted-order y z k l = rw (none-left-out y, none-left-out z) (spread-order 0 h y z (reaches y k) (reaches z l))
 
-  pub shifted-below : (z : ℤ) → mag z < h → shifted h z < 2 * h
+  pub shifted-below : (z : ℤ) → fitsSigned h z → shifted h z < 2 * h
   shifted-below (pos n) l = omega arith
   shifted-below (negsuc n) l = omega arith
 
@@ -67,11 +66,11 @@ module _ (h : ℕ) where
   read-high : (n : ℕ) → h ≤ n → n < 2 * h → fromTwos h (turned n) ≡ pos (n - h)
   read-high n g l = rw (turned-high n g l) (sym (from-low h (n - h) (omega arith)))
 
-  pub shifted-read : (z : ℤ) → mag z < h → fromTwos h (turned (shifted h z)) ≡ z
+  pub shifted-read : (z : ℤ) → fitsSigned h z → fromTwos h (turned (shifted h z)) ≡ z
   shifted-read (pos n) l = read-high (h + n) (omega arith) (omega arith) ∙ ap pos (omega arith)
   shifted-read (negsuc n) l = read-low (h - suc n) (omega arith) ∙ ap negsuc (omega arith)
 
-  pub read-shifted : (n : ℕ) → n < 2 * h → (mag (fromTwos h (turned n)) < h) × (shifted h (fromTwos h (turned n)) ≡ n)
+  pub read-shifted : (n : ℕ) → n < 2 * h → fitsSigned h (fromTwos h (turned n)) × (shifted h (fromTwos h (turned n)) ≡ n)
   read-shifted n l = elim (lt-or-ge n h) [
     | inl k ↦ rw (read-low n k) (omega arith, omega arith)
     | inr g ↦ rw (read-high n g l) (omega arith, omega arith)

@@ -23,9 +23,10 @@ use Rattle.record.specs.Record.{fieldsOf, badCount}
 use Rattle.record.proofs.Record as record-type
 use Rattle.key.specs.declared.Written.{Written}
 use Rattle.key.specs.declared.Written.the-variants as written
-use Rattle.key.specs.Key.{keyNumber, bigEndian, fieldKey, keyOf, nanRules, writtenOutcome, writeOf, writeExit}
-use Rattle.key.specs.Steps.{put, FirstNan}
-use Rattle.key.proofs.Bytes.{length-big}
+use Rattle.bytewise.specs.Numbers.{bigEndian}
+use Rattle.key.specs.Key.{keyNumber, fieldKey, keyOf, nanRules, writtenOutcome, writeOf, writeExit}
+use Rattle.key.specs.Inner.{put, FirstNan}
+use Rattle.bytewise.proofs.BigEndian.{length-big}
 use Rattle.key.proofs.NumberBytes.{length-put, put-nil, put-put}
 
 -- ---- the fields that count
@@ -199,4 +200,4 @@ module _ (r : Record) (old : List ℕ) where
       unfolding writeExit put
       write-done h q =
           let a : gives n ≡ writeOf r (length old) = sym (rw (le-ltb at (r .count) h)) ∙ past-room in
-          (a, q ∙ rw (← a, n-is, zero-add))
+          (a, q ∙ rw (← a, zero-add))

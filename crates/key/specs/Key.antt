@@ -1,5 +1,5 @@
 -- The key of a record: written, and read back. RULES.md: Keys, Refusals.
-use Prim.Native.Nat.{ℕ, zero, suc, _+_, _-_, _*_, _/_, _%_, _^_}
+use Prim.Native.Nat.{ℕ, suc, _+_, _-_, _*_, _%_, _^_}
 use mathlib.Core.Bool.{Bool, false, not, _||_, cond}
 use mathlib.Core.List.{List, [], _∷_, _++_, map}
 use lib.Dec.{eqb, ltb, leb}
@@ -9,14 +9,15 @@ use Rattle.float.specs.Format.{fractionOf, exponentOf, signOf, nanOf}
 use Rattle.float.specs.Number.{isNone}
 use Rattle.value.specs.declared.Kind.{Kind}
 use Rattle.value.specs.declared.Value.{Value}
-use Rattle.value.specs.Kinds.{Form, unsigned, signed, float, formOf, kindOf, bytesOf}
+use Rattle.value.specs.Kinds.{Form, unsigned, signed, floating, formOf, kindOf, bytesOf}
 use Rattle.value.specs.Meaning.{Content, natural, integer, real, contentOf, exactOf, floatBits, valueOf}
-use Rattle.value.specs.Outcome.{Outcome, gives, refuses, refusalOf}
+use Rattle.value.specs.Outcome.{Outcome, gives, refusalOf, lentAfter}
 use Rattle.value.specs.Rules.{Rule, rule, chain, eachOf}
 use Rattle.record.specs.declared.Field.{Field}
 use Rattle.record.specs.declared.Record.{Record}
 use Rattle.record.specs.declared.Shape.{Shape}
 use Rattle.record.specs.Record.{fieldFor, fieldsOf, badCount, kindsIn, recordOf}
+use Rattle.bytewise.specs.Numbers.{bigEndian, fromBigEndian}
 use Rattle.key.specs.declared.Written.{Written}
 use Rattle.key.specs.declared.Written.the-variants as written
 
@@ -42,12 +43,7 @@ keyIn (real f x w) = floatKey (signOf (fractionOf f) (exponentOf f)) (floatBits 
 abbrev pub keyNumber : Value → ℕ
 keyNumber v = keyIn (contentOf v)
 
--- ---- bytes
-
--- the last k bytes of n, high byte first
-unfoldable pub bigEndian : ℕ → ℕ → List ℕ
-bigEndian zero n = []
-bigEndian (suc k) n = bigEndian k (n / 256) ++ (n % 256 ∷ [])
+-- ---- bytes, high byte first
 
 abbrev pub fieldKey : Value → List ℕ
 fieldKey v = bigEndian (bytesOf (kindOf v)) (keyNumber v)
@@ -77,20 +73,11 @@ writeRules r room =
 unfoldable pub writeOf : Record → ℕ → Outcome ℕ
 writeOf r room = chain (writeRules r room) (gives (length (keyOf (fieldsOf r))))
 
--- the buffer at the end: the key and what stood behind it, or after a refusal what it was
-abbrev pub bufferAfter : Outcome ℕ → List ℕ → List ℕ → List ℕ
-bufferAfter (gives n) key old = key ++ drop n old
-bufferAfter (refuses number place) key old = old
-
+-- the buffer at the end
 unfoldable pub writeExit : Record → List ℕ → List ℕ
-writeExit r old = bufferAfter (writeOf r (length old)) (keyOf (fieldsOf r)) old
+writeExit r old = lentAfter (λ n. keyOf (fieldsOf r)) (writeOf r (length old)) old
 
 -- ---- reading
-
--- the number whose bytes, high byte first, these are; n stands before them
-unfoldable pub numberFrom : ℕ → List ℕ → ℕ
-numberFrom n [] = n
-numberFrom n (x ∷ xs) = numberFrom (n * 256 + x) xs
 
 -- the bits of a float whose key is n
 abbrev pub patternFrom : ℕ → ℕ → ℕ
@@ -100,13 +87,13 @@ patternFrom half n = cond (ltb n half) (2 * half - 1 - n) (n - half)
 abbrev pub bitsFrom : Form → ℕ → ℕ
 bitsFrom (unsigned k) n = n
 bitsFrom (signed k) n = (n + 2 ^ (k - 1)) % 2 ^ k
-bitsFrom (float f) n = patternFrom (signOf (fractionOf f) (exponentOf f)) n
+bitsFrom (floating f) n = patternFrom (signOf (fractionOf f) (exponentOf f)) n
 
 -- 12: a float that would be a NaN or minus zero
 abbrev pub notCanonical : Form → ℕ → Bool
 notCanonical (unsigned k) n = false
 notCanonical (signed k) n = false
-notCanonical (float f) n =
+notCanonical (floating f) n =
     nanOf (fractionOf f) (exponentOf f) (patternFrom (signOf (fractionOf f) (exponentOf f)) n)
     || eqb (patternFrom (signOf (fractionOf f) (exponentOf f)) n) (signOf (fractionOf f) (exponentOf f))
 
@@ -118,7 +105,7 @@ bytesIn (k ∷ ks) = bytesOf k + bytesIn ks
 -- each field's kind, and the number of its key
 unfoldable pub numbersIn : List Kind → List ℕ → List (Kind × ℕ)
 numbersIn [] key = []
-numbersIn (k ∷ ks) key = (k, numberFrom 0 (take (bytesOf k) key)) ∷ numbersIn ks (drop (bytesOf k) key)
+numbersIn (k ∷ ks) key = (k, fromBigEndian 0 (take (bytesOf k) key)) ∷ numbersIn ks (drop (bytesOf k) key)
 
 -- `at` is the index of the first field
 abbrev pub canonicalRules : ℕ → List (Kind × ℕ) → List Rule

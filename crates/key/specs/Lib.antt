@@ -1,4 +1,7 @@
+-- The definitions of this crate, in the order to read them.
+-- the key of a record: written, and read back
 pub mod Key
-pub mod Steps
-pub mod Prefix
-pub mod Theorem
+-- what demand 3 speaks of: values and records that have a key, and what reading makes of them
+pub mod Keyed
+-- what private functions compute
+pub mod Inner

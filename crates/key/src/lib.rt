@@ -1,11 +1,8 @@
-// Keys: byte strings that order as their records do (docs/KEYS.md, docs/RULES.md: Keys), and the choice between two lent rows of bytes by a prefix.
-mod layouts;
-mod prefixes;
+// Keys: byte strings that order as their records do (docs/KEYS.md, docs/RULES.md: Keys).
+mod numbers;
 mod reading;
 mod writing;
 
-pub use prefixes::max_by_prefix;
-pub use prefixes::min_by_prefix;
 pub use reading::read;
 use value::Refusal;
 pub use writing::write;
@@ -17,7 +14,7 @@ pub enum Written {
 }
 
 // How a kind's bits are turned into a key and back: the weight of the sign bit, and of a float the bits of plus infinity.
-enum Layout {
+enum Weights {
     Unsigned,
     Signed(u64),
     Float(u64, u64),

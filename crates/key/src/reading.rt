@@ -3,10 +3,11 @@ ghost use mathlib.Core.Path.{_≡_};
 ghost use Prim.Native.Nat.{_+_, _^_, _≤_, _<_};
 ghost use lib.ListN.{length, take, drop};
 ghost use Rattle.record.specs.Record.{kindsIn, recordedOf};
-ghost use Rattle.key.specs.Key.{bytesIn, numberFrom, readOf};
-use crate::layouts::bits_in;
-use crate::layouts::foreign_in;
-use crate::layouts::layout_of;
+ghost use Rattle.bytewise.specs.Numbers.{fromBigEndian};
+ghost use Rattle.key.specs.Key.{bytesIn, readOf};
+use crate::numbers::bits_in;
+use crate::numbers::foreign_in;
+use crate::numbers::weights_of;
 use record::Field;
 use record::Made;
 use record::Recorded;
@@ -42,7 +43,7 @@ fn wide(x: u8) -> u64
 // The number whose bytes, high byte first, are the `width` bytes from a place on.
 fn read_number(key: &[u8], from: usize, width: usize) -> u64
     requires { ⌜ (width ≤ 8) × (from + width ≤ length (now key)) ⌝ }
-    ensures { λ r. ⌜ (r ≡ numberFrom 0 (take width (drop from (now (key .entry))))) × (r < 256 ^ width) ⌝ }
+    ensures { λ r. ⌜ (r ≡ fromBigEndian 0 (take width (drop from (now (key .entry))))) × (r < 256 ^ width) ⌝ }
 {
     let mut n = 0;
     let mut i = 0;
@@ -71,9 +72,9 @@ pub fn read(shape: Shape, key: &[u8]) -> Recorded
         let p = shape.places[at];
         let k = p.kind;
         let width = bytes_of(k);
-        let layout = layout_of(k);
-        let bits = bits_in(layout, read_number(key, from, width));
-        if foreign_in(layout, bits) {
+        let weights = weights_of(k);
+        let bits = bits_in(weights, read_number(key, from, width));
+        if foreign_in(weights, bits) {
             return refused(12, at);
         }
         let v = value::value_of(k, bits);

@@ -5,12 +5,13 @@ ghost use lib.ListN.{length};
 ghost use Rattle.float.specs.Number.{isNone};
 ghost use Rattle.value.specs.Meaning.{exactOf};
 ghost use Rattle.record.specs.Record.{fieldsOf};
-ghost use Rattle.key.specs.Key.{bigEndian, keyOf, writtenOutcome, writeOf, writeExit};
-ghost use Rattle.key.specs.Steps.{put, FirstNan};
+ghost use Rattle.bytewise.specs.Numbers.{bigEndian};
+ghost use Rattle.key.specs.Key.{keyOf, writtenOutcome, writeOf, writeExit};
+ghost use Rattle.key.specs.Inner.{put, FirstNan};
 use crate::Written;
-use crate::layouts::layout_of;
-use crate::layouts::nan_in;
-use crate::layouts::number_of;
+use crate::numbers::nan_in;
+use crate::numbers::number_of;
+use crate::numbers::weights_of;
 use record::Record;
 use record::bad_count;
 use value::Refusal;
@@ -36,7 +37,7 @@ fn key_length(r: Record) -> usize
 fn is_nan(v: Value) -> bool
     ensures { λ r. ⌜ r ≡ isNone (exactOf v) ⌝ }
 {
-    nan_in(layout_of(value::kind_of(v)), value::bits_of(v))
+    nan_in(weights_of(value::kind_of(v)), value::bits_of(v))
 }
 
 // The index of the first NaN, or the count.

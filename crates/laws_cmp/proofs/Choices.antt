@@ -7,8 +7,10 @@ use Rattle.float.specs.Order.{isLess, isLessOrEqual, isGreater, isUnordered}
 use Rattle.value.specs.declared.Value.{Value}
 use Rattle.value.specs.Outcome.{gives, refuses, andThen}
 use Rattle.cmp.specs.Compare.{compareOf}
-use Rattle.cmp.specs.Choose.{chosenBy, minOf, maxOf, clampedBy, clampOf}
-use Rattle.cmp.proofs.Choice.{min-chosen, max-chosen, clamp-clamped}
+use Rattle.cmp.specs.Inner.{chosenBy}
+use Rattle.choose.specs.Choose.{minOf, maxOf, clampOf}
+use Rattle.choose.specs.Inner.{clampedBy}
+use Rattle.choose.proofs.Choice.{min-chosen, max-chosen, clamp-clamped}
 use Rattle.cmp.proofs.Orders.{turned-order}
 
 -- ---- by the order of the first and the second: min_by and max_by over the fixed comparison

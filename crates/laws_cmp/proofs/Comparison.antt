@@ -1,9 +1,10 @@
 -- The comparison of values is a partial order on all ten kinds at once: it goes by the number, and numbers are so ordered.
-use mathlib.Core.Path.{_≡_, refl, ap}
+use mathlib.Core.Path.{_≡_, ap}
 use mathlib.Core.Bool.{true}
 use Rattle.float.specs.declared.Order.{Order}
-use Rattle.float.specs.declared.Order.the-variants.{Less, Equal, Greater, Unordered}
+use Rattle.float.specs.declared.Order.the-variants.{Less, Equal, Greater}
 use Rattle.float.specs.Order.{isEqual}
+use Rattle.float.proofs.SameNumber.{is-equal}
 use Rattle.value.specs.Outcome.{Outcome, gives, refuses, mapped}
 use Rattle.cmp.specs.Compare.{compareOf, eqOf}
 use Rattle.cmp.proofs.Orders.{turned-order, less-transitive, equal-transitive}
@@ -13,12 +14,6 @@ use Rattle.laws_cmp.specs.Laws.{PartialOrder}
 
 pub equal-tested : (o : Outcome Order) → o ≡ gives Equal → mapped isEqual o ≡ gives true
 equal-tested o q = ap (mapped isEqual) q
-
-is-equal : (o : Order) → isEqual o ≡ true → o ≡ Equal
-is-equal Less h = cc
-is-equal Equal h = refl
-is-equal Greater h = cc
-is-equal Unordered h = cc
 
 pub tested-equal : (o : Outcome Order) → mapped isEqual o ≡ gives true → o ≡ gives Equal
 tested-equal (gives o) h = ap gives (is-equal o (cc))

@@ -11,10 +11,11 @@ use Rattle.float.proofs.SameNumber.{equal-same}
 use Rattle.value.specs.declared.Value.{Value}
 use Rattle.value.specs.Kinds.{kindOf}
 use Rattle.value.specs.Meaning.{numberOf}
-use Rattle.cmp.specs.Choose.{valueOrder}
+use Rattle.cmp.specs.Compare.{valueOrder}
 use Rattle.cmp.proofs.Given.{compared-order, order-compared}
 use Rattle.record.specs.declared.Field.{Field}
-use Rattle.record.specs.Record.{fieldFor, kindsOf, orElse, lexicalOf}
+use Rattle.float.specs.Order.{orElse}
+use Rattle.record.specs.Record.{fieldFor, kindsOf, lexicalOf}
 use Rattle.laws_cmp.specs.Laws.{AllIntegers, AllEqual, OneIntegerKind}
 use Rattle.laws_cmp.proofs.Integers.{integers-linear-order}
 

@@ -3,7 +3,7 @@ use mathlib.Core.Path.{_≡_}
 use Rattle.float.specs.declared.Order.{Order}
 use Rattle.float.specs.declared.Order.the-variants.{Less, Equal, Greater, Unordered}
 use Rattle.value.specs.Outcome.{gives, refuses}
-use Rattle.cmp.specs.Choose.{chosenBy}
+use Rattle.cmp.specs.Inner.{chosenBy}
 use Rattle.record.specs.declared.Record.{Record}
 use Rattle.record.specs.Record.{fieldsOf, decidingOf, compareOf, minOf, maxOf}
 use Rattle.record.proofs.Given.{kinds-shape, compared-records}

@@ -1,11 +1,11 @@
 -- The total order is linear on every kind, Equal only for the same bits, and agrees with a comparison that says Less or Greater.
 use mathlib.Core.Path.{_≡_, sym, _∙_, ap, subst}
 use mathlib.Core.Logic.{_⊎_, inl, inr}
-use Prim.Native.Nat.{ℕ, _<_}
-use lib.Dec.{T, ltb, lit<}
-use lib.Ieee.{Format, binary32, binary64}
-use Rattle.float.specs.Format.{fractionOf, exponentOf, infOf}
-use Rattle.float.specs.Format as float
+use Prim.Native.Nat.{ℕ}
+use lib.Dec.{T}
+use lib.Ieee.{Format}
+use Rattle.float.specs.Format.{fractionOf, exponentOf}
+use Rattle.float.specs.Format as patterns
 use Rattle.float.specs.Number.{Number, times}
 use Rattle.float.specs.Number as exact
 use Rattle.float.specs.Order.{orderZ, orderOf, patternOf}
@@ -14,10 +14,12 @@ use Rattle.float.specs.declared.Order.the-variants.{Less, Equal, Greater}
 use Rattle.float.proofs.Turned.{turned, turn-integers}
 use Rattle.float.proofs.Transitive.{integers-less-trans, integers-answer}
 use Rattle.float.proofs.SameNumber.{equal-integers, integer-equal}
+use Rattle.float.proofs.Language.{infinity-positive}
 use Rattle.float.proofs.Place.{position-injective}
 use Rattle.float.proofs.Agreement.{less-position}
+use Rattle.value.specs.declared.Kind.{Kind}
 use Rattle.value.specs.declared.Value.{Value}
-use Rattle.value.specs.Kinds.{kindOf, kindNumber, formOf, Form}
+use Rattle.value.specs.Kinds.{kindOf, formOf, isInteger, Form}
 use Rattle.value.specs.Kinds as kinds
 use Rattle.value.specs.Meaning.{real, bitsIn, bitsOf, numberOf, positionIn, positionOf, exactIn, stepOf}
 use Rattle.value.specs.Outcome.{gives}
@@ -51,18 +53,18 @@ ordered-total x y k = elim (integers-answer (positionOf x) (positionOf y)) [
 -- ---- two values of one kind: both of an integer kind, or two floats of one format
 
 pub other-whole : (a b : Value) → kindOf a ≡ kindOf b → Whole a → Whole b
-other-whole a b k t = subst (λ (n : ℕ). T (ltb n 8)) (ap kindNumber k) t
+other-whole a b k t = subst (λ (j : Kind). T (isInteger (formOf j))) k t
 
 one-format : (a b : Value) (s : Floating a) (t : Floating b) → kindOf a ≡ kindOf b → s .format ≡ t .format
 one-format a b s t k = same-form (sym (s .form) ∙ ap formOf k ∙ t .form)
   where
-    same-form : {f g : Format} → _≡_ {A = Form} (kinds.float f) (kinds.float g) → f ≡ g
+    same-form : {f g : Format} → _≡_ {A = Form} (kinds.floating f) (kinds.floating g) → f ≡ g
     same-form q = cc
 
 -- ---- Equal only for the same bits
 
-float-bits : (f g : Format) (m n : ℕ) → f ≡ g → float.positionOf (fractionOf f) (exponentOf f) m ≡ float.positionOf (fractionOf g) (exponentOf g) n → m ≡ n
-float-bits f g m n q h = position-injective (fractionOf f) (exponentOf f) m n (h ∙ ap (λ (k : Format). float.positionOf (fractionOf k) (exponentOf k) n) (sym q))
+float-bits : (f g : Format) (m n : ℕ) → f ≡ g → patterns.positionOf (fractionOf f) (exponentOf f) m ≡ patterns.positionOf (fractionOf g) (exponentOf g) n → m ≡ n
+float-bits f g m n q h = position-injective (fractionOf f) (exponentOf f) m n (h ∙ ap (λ (k : Format). patterns.positionOf (fractionOf k) (exponentOf k) n) (sym q))
 
 same-position : (a b : Value) → kindOf a ≡ kindOf b → positionOf a ≡ positionOf b → Whole a ⊎ Floating a → Whole b ⊎ Floating b → bitsOf a ≡ bitsOf b
 same-position a b k h (inl s) (inl t) = ap bitsOf (whole-same a b s t k h)
@@ -90,20 +92,16 @@ values-total-order = record {
 
 -- ---- it agrees with the comparison
 
-inf-positive : (f : Format) → 0 < infOf (fractionOf f) (exponentOf f)
-inf-positive binary32 = lit< tt
-inf-positive binary64 = lit< tt
-
 -- the number of a pattern in the common unit
 abbrev numberFor : Format → ℕ → Number
 numberFor f m = exact.numberOf (times (stepOf f) (patternOf (fractionOf f) (exponentOf f) m))
 
 less-floats : (f g : Format) (m n : ℕ) → f ≡ g → orderOf (numberFor f m) (numberFor g n) ≡ Less
-    → orderZ (float.positionOf (fractionOf f) (exponentOf f) m) (float.positionOf (fractionOf g) (exponentOf g) n) ≡ Less
+    → orderZ (patterns.positionOf (fractionOf f) (exponentOf f) m) (patterns.positionOf (fractionOf g) (exponentOf g) n) ≡ Less
 less-floats f g m n q h =
     let k : orderOf (numberFor f m) (numberFor f n) ≡ Less = ap (λ (j : Format). orderOf (numberFor f m) (numberFor j n)) q ∙ h in
-    ap (λ (j : Format). orderZ (float.positionOf (fractionOf f) (exponentOf f) m) (float.positionOf (fractionOf j) (exponentOf j) n)) (sym q)
-    ∙ less-position (fractionOf f) (exponentOf f) m n (inf-positive f) (patterns-order f m n ∙ k)
+    ap (λ (j : Format). orderZ (patterns.positionOf (fractionOf f) (exponentOf f) m) (patterns.positionOf (fractionOf j) (exponentOf j) n)) (sym q)
+    ∙ less-position (fractionOf f) (exponentOf f) m n (infinity-positive f) (patterns-order f m n ∙ k)
 
 less-agrees : (a b : Value) → kindOf a ≡ kindOf b → orderOf (numberOf a) (numberOf b) ≡ Less → Whole a ⊎ Floating a → Whole b ⊎ Floating b → orderZ (positionOf a) (positionOf b) ≡ Less
 less-agrees a b k h (inl s) (inl t) = sym (positions-order a b s t) ∙ h

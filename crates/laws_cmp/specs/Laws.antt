@@ -3,13 +3,13 @@ use mathlib.Core.Path.{_≡_}
 use mathlib.Core.Logic.{_⊎_}
 use mathlib.Core.Bool.{Bool, true, false}
 use mathlib.Core.List.{List, [], _∷_}
-use lib.Dec.{T, ltb}
+use lib.Dec.{T}
 use Rattle.float.specs.declared.Order.{Order}
 use Rattle.float.specs.declared.Order.the-variants.{Less, Equal, Greater}
 use Rattle.value.specs.declared.Value.{Value}
-use Rattle.value.specs.Kinds.{kindOf, kindNumber}
+use Rattle.value.specs.Kinds.{kindOf, formOf, isInteger}
 use Rattle.value.specs.Outcome.{Outcome, gives}
-use Rattle.cmp.specs.Choose.{valueOrder}
+use Rattle.cmp.specs.Compare.{valueOrder}
 use Rattle.record.specs.declared.Field.{Field}
 use Rattle.record.specs.declared.Record.{Record}
 use Rattle.record.specs.Record.{fieldsOf, kindsOf, badCount}
@@ -43,14 +43,14 @@ abbrev pub OneKind : Value → Value → Type 0
 OneKind x y = kindOf x ≡ kindOf y
 
 abbrev pub OneIntegerKind : Value → Value → Type 0
-OneIntegerKind x y = T (ltb (kindNumber (kindOf x)) 8) × OneKind x y
+OneIntegerKind x y = T (isInteger (formOf (kindOf x))) × OneKind x y
 
 -- ---- records
 
 -- every field is of an integer kind
 abbrev pub AllIntegers : List Field → Type 0
 AllIntegers [] = Unit
-AllIntegers (x ∷ xs) = T (ltb (kindNumber (kindOf (x .value))) 8) × AllIntegers xs
+AllIntegers (x ∷ xs) = T (isInteger (formOf (kindOf (x .value)))) × AllIntegers xs
 
 -- two records of 1 to 12 fields with the same kinds, and two with integer kinds alone
 abbrev pub OneShape : Record → Record → Type 0

@@ -1,13 +1,18 @@
 // The lines of an answer, on standard output.
-use block::Found;
 use libc::STDOUT_FILENO;
+use look::Found;
 use std::num::wrapping_add_u64;
 use std::num::wrapping_sub_u64;
 use text::KIND_NAMES;
+use text::digits_of;
+use text::nth_word;
 use value::Kind;
+use value::Layout;
 use value::Value;
 use value::bits_of;
+use value::kind_number;
 use value::kind_of;
+use value::layout_of;
 
 pub(crate) fn put_number(name: &[u8], n: u64) {
     io::write_all(STDOUT_FILENO, name);
@@ -28,14 +33,11 @@ pub(crate) fn put_found(name: &[u8], f: Found) {
 // An integer in decimal, a float by its bits.
 fn put_value(v: Value) {
     let bits = bits_of(v);
-    match kind_of(v) {
-        Kind::I8 => put_signed(bits, 0x80),
-        Kind::I16 => put_signed(bits, 0x8000),
-        Kind::I32 => put_signed(bits, 0x8000_0000),
-        Kind::I64 => put_signed(bits, 0x8000_0000_0000_0000),
-        Kind::F32 => put_bits(b"f32:", bits, 8),
-        Kind::F64 => put_bits(b"f64:", bits, 16),
-        _ => put_decimal(bits),
+    let k = kind_of(v);
+    match layout_of(k) {
+        Layout::Unsigned(_) => put_decimal(bits),
+        Layout::Signed(width) => put_signed(bits, 1 << (width - 1)),
+        Layout::Float(_, _) => put_bits(k, bits),
     }
 }
 
@@ -57,9 +59,11 @@ fn put_signed(bits: u64, half: u64) {
     }
 }
 
-fn put_bits(name: &[u8], bits: u64, digits: usize) {
-    io::write_all(STDOUT_FILENO, name);
-    io::print_hex(STDOUT_FILENO, bits, digits);
+// The name of the kind, and hex digits.
+fn put_bits(k: Kind, bits: u64) {
+    put_text(nth_word(&KIND_NAMES, kind_number(k) as usize));
+    put_text(b":");
+    io::print_hex(STDOUT_FILENO, bits, digits_of(k));
 }
 
 // An argument that names no kind.

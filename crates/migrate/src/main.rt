@@ -1,8 +1,6 @@
 // Moves a file of samples from one kind to another, exactly or not at all: `migrate FROM TO IN OUT [made]`; or looks at it before: `migrate
-// report FROM IN [TO]`. The answer is lines on standard output (docs/RULES.md: Migration, Report). What converts a block is block::convert_block, and
-// what looks at one block::look_block; here are only files, arguments and lines.
-mod blocks;
-mod files;
+// report FROM IN [TO]`. The answer is lines on standard output (docs/RULES.md: Migration, Report). What moves a file
+// is migration::run, and what looks through one migration::look_through; here are only files, arguments and lines.
 mod lines;
 mod moves;
 mod reports;

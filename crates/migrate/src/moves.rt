@@ -4,13 +4,12 @@
 ghost use Prim.Native.Nat.{_≤_};
 ghost use lib.ListN.{length};
 ghost use mathlib.Core.Path.{_≡_};
-use crate::blocks::Fault;
-use crate::blocks::State;
-use crate::blocks::large_buffer;
-use crate::blocks::run;
 use crate::lines::put_error;
 use crate::lines::put_failure;
 use crate::lines::put_number;
+use migration::Fault;
+use migration::State;
+use migration::run;
 use row::Rowed;
 use value::Kind;
 
@@ -123,9 +122,7 @@ fn migrate_to(input: i32, from: Kind, to: Kind, out: &[u8], part: &[u8], made: b
     if output < 0 {
         return;
     }
-    let mut src = large_buffer();
-    let mut dst = large_buffer();
-    let r = run(input, output, from, to, &mut src, &mut dst);
+    let r = run(input, output, from, to);
     let closed = libc::close(output);
     if finish(r, closed, out, part) {
         return;

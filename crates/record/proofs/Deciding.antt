@@ -1,6 +1,6 @@
 -- The comparison and the choice, from the decision that they share.
 use Prim.Native.Nat.{ℕ, _≤_}
-use mathlib.Core.Path.{_≡_, refl, sym, _∙_, ap}
+use mathlib.Core.Path.{_≡_, sym, _∙_, ap}
 use mathlib.Core.Bool.{Bool, true, false, _||_}
 use native.Mathlib.Nat.{zero-add}
 use lib.Dec.{eqb, ltb}
@@ -11,13 +11,13 @@ use Rattle.value.specs.Outcome.{Outcome, gives, refuses, refusalOf, andThen}
 use Rattle.value.specs.Rules.{chain}
 use Rattle.value.proofs.Rules.{chain-then}
 use Rattle.value.specs.declared.Refusal.{Refusal}
-use Rattle.cmp.specs.Choose.{chosenBy}
+use Rattle.cmp.specs.Inner.{chosenBy}
 use Rattle.record.specs.declared.Record.{Record}
 use Rattle.record.specs.declared.comparisons.Decision.{Decision}
 use Rattle.record.specs.declared.comparisons.Decided.{Decided}
 use Rattle.record.specs.declared.comparisons.Decided.the-variants as decided
 use Rattle.record.specs.Record.{fieldsOf, badCount, shapesDiffer, lexicalOf, decidingOf, recordRules, compareOf, minOf, maxOf}
-use Rattle.record.specs.Decide.{decidedOutcome, decisionFrom, decideOf, chosenFrom}
+use Rattle.record.specs.Inner.{decidedOutcome, decisionFrom, decideOf, chosenFrom}
 
 -- ---- after a decision
 

@@ -5,3 +5,4 @@ pub mod OneShape
 pub mod Shaping
 pub mod Determined
 pub mod Given
+pub mod Outside

@@ -7,7 +7,7 @@ use Rattle.value.specs.Outcome.{gives, refusalOf}
 use Rattle.float.specs.declared.Order.{Order}
 use Rattle.float.proofs.Tests.{clash}
 use Rattle.cmp.specs.Compare.{kindsDiffer, compareOf}
-use Rattle.cmp.specs.Choose.{valueOrder}
+use Rattle.cmp.specs.Compare.{valueOrder}
 
 pub one-kind-ordered : (v w : Value) → kindsDiffer v w ≡ false → compareOf v w ≡ gives (valueOrder v w)
 unfolding compareOf

@@ -14,13 +14,14 @@ use Rattle.float.specs.Order.{isEqual}
 use Rattle.float.proofs.Tests.{neither}
 use Rattle.value.specs.declared.Value.the-variants.{U8}
 use Rattle.cmp.specs.Compare.{kindsDiffer}
-use Rattle.cmp.specs.Choose.{valueOrder}
+use Rattle.cmp.specs.Compare.{valueOrder}
 use Rattle.record.proofs.Record as record-type
 use Rattle.record.specs.declared.Field.{Field}
 use Rattle.record.specs.declared.Record.{Record}
 use Rattle.record.specs.declared.comparisons.Decision.{Decision}
-use Rattle.record.specs.Record.{fieldFor, valueAt, orElse, lexicalOf, decidingOf, shapesDiffer}
-use Rattle.record.specs.Decide.{decisionFrom}
+use Rattle.float.specs.Order.{orElse}
+use Rattle.record.specs.Record.{fieldFor, valueAt, lexicalOf, decidingOf, shapesDiffer}
+use Rattle.record.specs.Inner.{decisionFrom}
 
 -- a record has twelve places: what owning it tells, and of its fields
 abbrev pub Twelve : Record → Type 0

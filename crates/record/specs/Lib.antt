@@ -1,2 +1,5 @@
+-- The definitions of this crate, in the order to read them.
+-- records and shapes: made, read, compared, and chosen between
 pub mod Record
-pub mod Decide
+-- what private functions compute
+pub mod Inner

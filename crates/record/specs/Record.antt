@@ -5,8 +5,8 @@ use mathlib.Core.List.{List, [], _∷_, _++_, map}
 use lib.Dec.{eqb, ltb}
 use lib.ListN.{length, take, replicate, set, getD}
 use Rattle.float.specs.declared.Order.{Order}
-use Rattle.float.specs.declared.Order.the-variants.{Less, Equal, Greater, Unordered}
-use Rattle.float.specs.Order.{isEqual}
+use Rattle.float.specs.declared.Order.the-variants.{Equal}
+use Rattle.float.specs.Order.{orElse, isEqual}
 use Rattle.value.specs.declared.Kind.{Kind}
 use Rattle.value.specs.declared.Kind.the-variants as kind
 use Rattle.value.specs.declared.Value.{Value}
@@ -15,7 +15,8 @@ use Rattle.value.specs.Kinds.{kindOf}
 use Rattle.value.specs.Outcome.{Outcome, gives, refuses, refusalOf}
 use Rattle.value.specs.Rules.{Rule, rule, chain}
 use Rattle.cmp.specs.Compare.{kindsDiffer}
-use Rattle.cmp.specs.Choose.{valueOrder, unordered, choose}
+use Rattle.cmp.specs.Compare.{valueOrder}
+use Rattle.cmp.specs.ByOrder.{unordered, otherIfGreater}
 use Rattle.record.specs.declared.Field.{Field}
 use Rattle.record.specs.declared.Record.{Record}
 use Rattle.record.specs.declared.Place.{Place}
@@ -78,13 +79,6 @@ heldOutcome (held.Refused f) = refusalOf f
 
 -- ---- comparison
 
--- the first order that is not Equal decides
-abbrev pub orElse : Order → Order → Order
-orElse Less o = Less
-orElse Equal o = o
-orElse Greater o = Greater
-orElse Unordered o = Unordered
-
 -- field by field, for fields of one shape
 unfoldable pub lexicalOf : List Field → List Field → Order
 lexicalOf [] ys = Equal
@@ -120,10 +114,10 @@ abbrev pub choiceRules : Record → Record → List Rule
 choiceRules a b = recordRules a b ++ (unordered (decidingOf (fieldsOf a) (fieldsOf b)) (lexicalOf (fieldsOf a) (fieldsOf b)) ∷ [])
 
 unfoldable pub minOf : Record → Record → Outcome Record
-minOf a b = chain (choiceRules a b) (gives (choose a b (lexicalOf (fieldsOf a) (fieldsOf b))))
+minOf a b = chain (choiceRules a b) (gives (otherIfGreater a b (lexicalOf (fieldsOf a) (fieldsOf b))))
 
 unfoldable pub maxOf : Record → Record → Outcome Record
-maxOf a b = chain (choiceRules a b) (gives (choose b a (lexicalOf (fieldsOf a) (fieldsOf b))))
+maxOf a b = chain (choiceRules a b) (gives (otherIfGreater b a (lexicalOf (fieldsOf a) (fieldsOf b))))
 
 -- ---- making, setting and reading
 

@@ -2,7 +2,7 @@
 ghost use mathlib.Core.Path.{_≡_};
 ghost use Rattle.value.specs.Outcome.{andThen};
 ghost use Rattle.record.specs.Record.{recordedOf, minOf, maxOf};
-ghost use Rattle.record.specs.Decide.{decidedOutcome, chosenFrom};
+ghost use Rattle.record.specs.Inner.{decidedOutcome, chosenFrom};
 use crate::Record;
 use crate::Recorded;
 use crate::comparisons::Decided;

@@ -14,6 +14,7 @@ pub use makings::push;
 pub use makings::refused;
 pub use makings::set;
 pub use shapes::bad_count;
+pub use shapes::blank_shape;
 pub use shapes::shape_of;
 use value::Kind;
 use value::Refusal;

@@ -1,6 +1,7 @@
 // Making records, setting their places and reading them. RULES.md: Records.
 ghost use mathlib.Core.Path.{_≡_};
 ghost use Prim.Native.Nat.{_<_};
+ghost use lib.Dec.{ltb};
 ghost use Rattle.value.specs.Outcome.{gives, refuses};
 ghost use Rattle.record.specs.Record as spec;
 ghost use Rattle.record.specs.Record.{valueAt, recordedOf, heldOutcome, setOf, getOf, pushOf};
@@ -43,10 +44,17 @@ pub fn refused(number: u8, place: usize) -> Recorded
     }
 }
 
+// Whether an index is none of the twelve places.
+fn is_outside(at: usize) -> bool
+    ensures { λ r. ⌜ r ≡ ltb 11 at ⌝ }
+{
+    11 < at
+}
+
 pub fn set(r: Record, at: usize, v: Value) -> Recorded
     ensures { λ s. ⌜ s ≡ recordedOf (setOf r at v) ⌝ }
 {
-    if 11 < at {
+    if is_outside(at) {
         return refused(11, 0);
     }
     let mut changed = r;
@@ -66,13 +74,13 @@ pub(crate) fn value_at(r: Record, at: usize) -> Value
 pub fn get(r: Record, at: usize) -> Held
     ensures { λ h. ⌜ heldOutcome h ≡ getOf r at ⌝ }
 {
-    if at < 12 {
-        Held::Is(value_at(r, at))
-    } else {
+    if is_outside(at) {
         Held::Refused(Refusal {
             number: 11,
             place: 0,
         })
+    } else {
+        Held::Is(value_at(r, at))
     }
 }
 
@@ -81,7 +89,7 @@ pub fn push(r: Record, v: Value) -> Recorded
     ensures { λ s. ⌜ s ≡ recordedOf (pushOf r v) ⌝ }
 {
     let end = r.count;
-    if 11 < end {
+    if is_outside(end) {
         return refused(11, 0);
     }
     let mut changed = r;

@@ -52,7 +52,7 @@ pub(crate) fn shapes_differ(a: Record, b: Record) -> bool
     false
 }
 
-fn blank_shape() -> Shape
+pub fn blank_shape() -> Shape
     ensures { λ s. ⌜ s ≡ blankShape ⌝ }
 {
     let p = Place { kind: Kind::U8 };

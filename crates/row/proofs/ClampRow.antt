@@ -9,11 +9,12 @@ use lib.Ieee.{Float, binary32, nan, fits, lt, le}
 use Rattle.float.specs.Order.{isLessOrEqual}
 use Rattle.float.proofs.Operators.{le-is}
 use Rattle.value.specs.Outcome.{gives, refuses, done}
-use Rattle.cmp.specs.declared.Range.{Range}
-use Rattle.cmp.specs.Choose.{sampleOrder, sampleOf}
-use Rattle.cmp.proofs.Samples.{sample-nan, sample-lower, sample-upper, sample-self}
+use Rattle.choose.specs.declared.Range.{Range}
+use Rattle.choose.specs.Choose.{sampleOrder, sampleOf}
+use Rattle.choose.proofs.Samples.{sample-nan, sample-lower, sample-upper, sample-self}
 use Rattle.row.specs.Row.{first}
-use Rattle.row.specs.Clamp.{isNotSelf, between, clampAnswer, clampExit}
+use Rattle.row.specs.Clamp.{clampAnswer, clampExit}
+use Rattle.row.specs.Inner.{isNotSelf, clampedFloat}
 use Rattle.row.proofs.Scan.{first-hit}
 use Rattle.row.proofs.Rows.{row-ruled, sample-refused, all-done}
 
@@ -36,7 +37,7 @@ module _ (range : Range) (hl : T (fits binary32 (range .lower))) (hu : T (fits b
     bad : (x : Float) → T (fits binary32 x) → isNotSelf x ≡ true → sampleOf range x ≡ refuses 8 0
     bad x h q = sym (sample-nan range x hl hu h b q)
 
-    good : (x : Float) → T (fits binary32 x) → isNotSelf x ≡ false → sampleOf range x ≡ gives (between (range .lower) (range .upper) x)
+    good : (x : Float) → T (fits binary32 x) → isNotSelf x ≡ false → sampleOf range x ≡ gives (clampedFloat (range .lower) (range .upper) x)
     good x h q = go (lt x (range .lower)) (lt (range .upper) x) refl refl
       where
         go : (s t : Bool) → lt x (range .lower) ≡ s → lt (range .upper) x ≡ t → sampleOf range x ≡ gives (cond s (range .lower) (cond t (range .upper) x))
@@ -48,9 +49,9 @@ module _ (range : Range) (hl : T (fits binary32 (range .lower))) (hu : T (fits b
       pub clamp-row-refused : at < length row → (refuses 8 at ≡ clampAnswer range row) × (row ≡ clampExit range row)
       unfolding clampAnswer clampExit
       clamp-row-refused l =
-          sample-refused (sampleOf range) isNotSelf (between (range .lower) (range .upper)) (λ x. T (fits binary32 x)) nan good outOfOrder 6 row row (by-operator b) all at at-is l 8 0 (bad (getD row at nan) (all at l) (first-hit isNotSelf row at nan at-is l))
+          sample-refused (sampleOf range) isNotSelf (clampedFloat (range .lower) (range .upper)) (λ x. T (fits binary32 x)) nan good outOfOrder 6 row row (by-operator b) all at at-is l 8 0 (bad (getD row at nan) (all at l) (first-hit isNotSelf row at nan at-is l))
 
-      pub clamp-row-done : (now : List Float) → length row ≤ at → now ≡ map (between (range .lower) (range .upper)) row → (gives done ≡ clampAnswer range row) × (now ≡ clampExit range row)
+      pub clamp-row-done : (now : List Float) → length row ≤ at → now ≡ map (clampedFloat (range .lower) (range .upper)) row → (gives done ≡ clampAnswer range row) × (now ≡ clampExit range row)
       unfolding clampAnswer clampExit
       clamp-row-done now l q =
-          all-done (sampleOf range) isNotSelf (between (range .lower) (range .upper)) (λ x. T (fits binary32 x)) nan good outOfOrder 6 row row (by-operator b) all at at-is now l q
+          all-done (sampleOf range) isNotSelf (clampedFloat (range .lower) (range .upper)) (λ x. T (fits binary32 x)) nan good outOfOrder 6 row row (by-operator b) all at at-is refl now l q

@@ -33,7 +33,7 @@ module _ {A B : Type 0} (conv : A → Outcome B) (src : List A) (dst : List B) w
 
     pub convert-done : (now : List B) → length src ≤ at → now ≡ map f src → Answers (gives done) now
     unfolding convertAnswer convertExit
-    convert-done = all-done conv test f P d good lengthsDiffer 9 src dst (ap not (eq-eqb _ _ same)) all at at-is
+    convert-done = all-done conv test f P d good lengthsDiffer 9 src dst (ap not (eq-eqb _ _ same)) all at at-is same
 
   -- where no sample is refused
   pub always-done : (f : A → B) (P : A → Type 0) (d : A) → ((x : A) → P x → conv x ≡ gives (f x)) → length src ≡ length dst → ((i : ℕ) → i < length src → P (getD src i d))

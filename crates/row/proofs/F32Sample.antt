@@ -15,7 +15,8 @@ use Rattle.value.specs.declared.Value.the-variants.{F32}
 use Rattle.value.specs.Meaning.{bitsOf, unit, stepOf, floatBits, nanWord}
 use Rattle.value.specs.Outcome.{gives, refuses, mapped}
 use Rattle.value.proofs.Units.{step-pos}
-use Rattle.convert.specs.Convert.{outside, intoOf, convertOf}
+use Rattle.convert.specs.Convert.{outside, convertOf}
+use Rattle.convert.specs.Inner.{intoOf}
 use Rattle.row.specs.Convert.{f32ToU16}
 use Rattle.row.proofs.FloatValue.{steps-units}
 use Rattle.row.proofs.IntoUnsigned.{into-fraction, into-outside, into-inside, u16-made}

@@ -23,7 +23,8 @@ use Rattle.value.proofs.MadeValues.{value-bits}
 use Rattle.convert.specs.Convert.{encodeOf, madeIn}
 use Rattle.convert.proofs.Encode.{encode-held}
 use Rattle.convert.proofs.Exactly.{complete}
-use Rattle.row.specs.Convert.{u16ToF32, asF32, floatOf}
+use Rattle.row.specs.Convert.{u16ToF32, floatOf}
+use Rattle.row.specs.Inner.{asF32}
 use Rattle.row.proofs.FloatValue.{value-pattern, over-more, steps-units}
 
 -- ---- the fields of a finite pattern

@@ -23,7 +23,8 @@ use Rattle.value.specs.Outcome.{gives, refuses, done}
 use Rattle.value.proofs.FloatBits.{from-bits}
 use Rattle.convert.specs.Convert.{outside}
 use Rattle.row.specs.Row.{first}
-use Rattle.row.specs.Convert.{f32ToU16, nought, isWhole, isMisfit, asF32, asU16}
+use Rattle.row.specs.Convert.{f32ToU16}
+use Rattle.row.specs.Inner.{nought, isWhole, isMisfit, asF32, asU16}
 use Rattle.row.proofs.ConvertRow.{Answers, convert-refused, convert-done}
 use Rattle.row.proofs.FloatValue.{pattern-value, bits-value, over-one}
 use Rattle.row.proofs.IntoF32.{cast-value}

@@ -15,9 +15,11 @@ use Rattle.value.specs.declared.Kind.the-variants as kind
 use Rattle.value.specs.Kinds.{unsigned, formOf}
 use Rattle.value.specs.Meaning.{bitsOf, unit}
 use Rattle.value.specs.Outcome.{gives, refuses, mapped, done}
-use Rattle.convert.specs.Convert.{outside, magnitudeFor, madeIn, intoOf, convertOf}
+use Rattle.convert.specs.Convert.{outside, magnitudeFor, madeIn, convertOf}
+use Rattle.convert.specs.Inner.{intoOf}
 use Rattle.row.specs.Row.{first}
-use Rattle.row.specs.Convert.{u8ToU16, u16ToU8, isWide}
+use Rattle.row.specs.Convert.{u8ToU16, u16ToU8}
+use Rattle.row.specs.Inner.{isWide}
 use Rattle.row.proofs.Scan.{first-hit}
 use Rattle.row.proofs.ConvertRow.{Answers, convert-refused, convert-done}
 

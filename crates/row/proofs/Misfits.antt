@@ -14,7 +14,7 @@ use Rattle.float.specs.Number.{Exact, notNumber, infinite, finite, number, numb
 use Rattle.float.specs.Order.{orderN, orderZ, orderOf, isLessOrEqual}
 use Rattle.float.proofs.Naturals.{lt-or-ge, three-ways, order-less, order-equal, order-greater}
 use Rattle.row.specs.Row.{first}
-use Rattle.row.specs.Convert.{nought, lastU16, isWhole, isMisfit}
+use Rattle.row.specs.Inner.{nought, lastU16, isWhole, isMisfit}
 use Rattle.row.proofs.FloatValue.{value-pattern, pattern-value, over-more}
 use Rattle.row.proofs.WholeFloats.{nought-value, last-value, le-at, unsigned-of, whole-found, whole-passes}
 use Rattle.row.proofs.F32Sample.{exactOf}

@@ -5,9 +5,10 @@ use mathlib.Core.List.{List, [], _∷_, map}
 use Prim.Native.Nat.{ℕ, suc, _+_, _≤_, _<_}
 use native.Mathlib.Nat.{not-suc-le-zero, zero-add}
 use native.Mathlib.Omega.{arith}
-use lib.ListN.{length, getD}
-use Rattle.value.specs.Outcome.{Outcome, gives, refuses, refuseIf, Success, done}
-use Rattle.row.specs.Row.{rowAnswer, rowResults, rowExit, first, sampleThen, sampleBefore}
+use lib.ListN.{length, getD, length-map}
+use Rattle.value.specs.Outcome.{Outcome, gives, refuses, refuseIf, Success, done, lentAfter}
+use Rattle.value.proofs.Outcomes.{refused-unchanged, given-fills}
+use Rattle.row.specs.Row.{rowAnswer, rowResults, first, sampleThen, sampleBefore}
 use Rattle.row.proofs.Scan.{first-all, none-at}
 
 -- what is answered where the row as a whole is refused with a number by a rule, and what the lent row holds after an answer
@@ -16,13 +17,13 @@ module _ {A B : Type 0} (conv : A → Outcome B) (s : List A) where
   ruledAnswer rule number = refuseIf rule number 0 (rowAnswer conv 0 s)
 
   abbrev pub leftAfter : List B → Outcome Success → List B
-  leftAfter old answer = rowExit answer (rowResults conv s) old
+  leftAfter old answer = lentAfter (λ (d : Success). rowResults conv s) answer old
 
   -- the rule of the whole row
   pub row-ruled : (rule : Bool) (number : ℕ) (old : List B) → rule ≡ true → (refuses number 0 ≡ ruledAnswer rule number) × (old ≡ leftAfter old (ruledAnswer rule number))
   row-ruled rule number old q =
       let o : ruledAnswer rule number ≡ refuses number 0 = ap (λ (b : Bool). ruledAnswer b number) q in
-      (sym o, sym (ap (leftAfter old) o))
+      (sym o, sym (refused-unchanged (λ (d : Success). rowResults conv s) old o))
 
 -- conv gives f of a sample that doesn't pass the test; P holds of every sample of the row
 module _ {A B : Type 0} (conv : A → Outcome B) (test : A → Bool) (f : A → B) (P : A → Type 0) (d : A) (good : (x : A) → P x → test x ≡ false → conv x ≡ gives (f x)) where
@@ -69,10 +70,12 @@ module _ {A B : Type 0} (conv : A → Outcome B) (test : A → Bool) (f : A → 
     sample-refused l m p bad =
         let r = row-refused m p 0 s all (omega arith) (ap (λ (i : ℕ). conv (getD s i d)) (sym at-is) ∙ bad) in
         let o : ruledAnswer conv s rule n ≡ refuses m at = passed ∙ r ∙ ap (λ (i : ℕ). refuses m i) (zero-add (first test s) ∙ sym at-is) in
-        (sym o, sym (ap (leftAfter conv s old) o))
+        (sym o, sym (refused-unchanged (λ (d : Success). rowResults conv s) old o))
 
-    pub all-done : (now : List B) → length s ≤ at → now ≡ map f s → (gives done ≡ ruledAnswer conv s rule n) × (now ≡ leftAfter conv s old (ruledAnswer conv s rule n))
-    all-done now l q =
+    pub all-done : length s ≡ length old → (now : List B) → length s ≤ at → now ≡ map f s
+        → (gives done ≡ ruledAnswer conv s rule n) × (now ≡ leftAfter conv s old (ruledAnswer conv s rule n))
+    all-done same now l q =
         let r = row-done 0 s all (first-all test s at at-is l) in
         let o : ruledAnswer conv s rule n ≡ gives done = passed ∙ r .0 in
-        (sym o, q ∙ sym (r .1) ∙ sym (ap (leftAfter conv s old) o))
+        let fills : length (rowResults conv s) ≡ length old = ap length (r .1) ∙ length-map s f ∙ same in
+        (sym o, q ∙ sym (r .1) ∙ sym (given-fills (λ (d : Success). rowResults conv s) old o fills))

@@ -1,6 +1,6 @@
 -- Which f32 are whole, by their bits and by the test (x + 2^23) - 2^23 == x.
 use mathlib.Core.Path.{_≡_, refl, sym, _∙_, ap}
-use mathlib.Core.Bool.{Bool, true, false, true≢false}
+use mathlib.Core.Bool.{Bool, true, false}
 use Prim.Native.Nat.{ℕ, zero, suc, _+_, _-_, _*_, _/_, _%_, _^_, _≤_, _<_}
 use native.Mathlib.Nat.{lt-of-lt-of-le, le-of-eq, mul-assoc, mul-div-cancel, mul-mod-left, le-div-iff-mul-le, add-zero}
 use native.Mathlib.Omega.{arith}
@@ -13,13 +13,11 @@ use lib.Ieee.Fits.{sub-fits}
 use Rattle.float.specs.Format.{magAt, magOf}
 use Rattle.float.specs.Number.{Exact, numberOf, signedOf}
 use Rattle.float.specs.Order.{orderZ, orderOf, patternOf, compareOf, isEqual, isLessOrEqual}
-use Rattle.float.specs.declared.Order.{Order}
-use Rattle.float.specs.declared.Order.the-variants.{Less, Equal, Greater, Unordered}
 use Rattle.float.proofs.Magnitude.{mag-rises}
 use Rattle.float.proofs.Naturals.{order-equal}
 use Rattle.float.proofs.Operators.{le-is, eq-is}
-use Rattle.float.proofs.SameNumber.{equal-integers}
-use Rattle.row.specs.Convert.{nought, lastU16, shift, isWhole}
+use Rattle.float.proofs.SameNumber.{is-equal, equal-integers}
+use Rattle.row.specs.Inner.{nought, lastU16, shift, isWhole}
 use Rattle.row.proofs.FloatValue.{value-pattern, over-more}
 use Rattle.row.proofs.WholeTest.{back-again}
 
@@ -48,12 +46,6 @@ module _ (x y : Float) (hx : T (fits binary32 x)) (hy : T (fits binary32 y)) {X 
   unfolding compareOf
   eq-at = eq-is binary32 x y hx hy ∙ cc (px, py)
 
-equal-order : (o : Order) → isEqual o ≡ true → o ≡ Equal
-equal-order Less h = absurd (true≢false (sym h))
-equal-order Equal h = refl
-equal-order Greater h = absurd (true≢false (sym h))
-equal-order Unordered h = absurd (true≢false (sym h))
-
 -- a sign that only a zero may have
 pub unsigned-of : (s : Bool) (a : ℕ) → (s ≡ true → a ≡ 0) → signedOf s a ≡ pos a
 unsigned-of false a h = refl
@@ -78,7 +70,7 @@ module _ (x : Float) (s : Bool) (a : ℕ) (hx : T (fits binary32 x)) (v : HasVal
 
   pub whole-found : isWhole x ≡ true → (n : ℕ) × (a ≡ n * 2 ^ 149)
   whole-found h =
-      let same : pos (back-value .0 * 2 ^ 149) ≡ pos a = equal-integers (pos (back-value .0 * 2 ^ 149)) (pos a) (equal-order _ (sym tested ∙ h)) in
+      let same : pos (back-value .0 * 2 ^ 149) ≡ pos a = equal-integers (pos (back-value .0 * 2 ^ 149)) (pos a) (is-equal _ (sym tested ∙ h)) in
       (back-value .0, sym (ap natAbs same))
 
   pub whole-passes : (n : ℕ) → a ≡ n * 2 ^ 149 → isWhole x ≡ true

@@ -3,19 +3,21 @@
 use mathlib.Core.Path.{_≡_, refl, sym, _∙_, ap, subst}
 use mathlib.Core.Bool.{Bool, true, false, true≢false}
 use Prim.Native.Nat.{ℕ, zero, suc, _+_, _-_, _*_, _/_, _%_, _^_, _≤_, _<_, compare, Ordering·lt, compare·zero-suc}
-use native.Mathlib.Nat.{le-trans, le-of-eq, lt-of-lt-of-le, lt-of-le-of-lt, lt-of-not-le, mul-one, mul-assoc, mul-comm, mul-right-comm, mul-pos, add-mul, zero-mul, mul-le-mul-right, mul-lt-mul-of-pos-right, lt-of-mul-lt-mul-right, eq-of-mul-eq-mul-right, mul-div-cancel, mul-mod-left, le-div-iff-mul-le, div-lt-iff-lt-mul}
+use native.Mathlib.Nat.{le-trans, le-of-eq, lt-of-lt-of-le, lt-of-le-of-lt, mul-one, mul-assoc, mul-comm, mul-right-comm, mul-pos}
+use native.Mathlib.Nat.{add-mul, zero-mul, mul-le-mul-right, mul-lt-mul-of-pos-right, lt-of-mul-lt-mul-right, eq-of-mul-eq-mul-right}
+use native.Mathlib.Nat.{mul-div-cancel, mul-mod-left, le-div-iff-mul-le, div-lt-iff-lt-mul}
 use native.Mathlib.Omega.{arith}
 use borrow.Author.Tests.{lt-ltb, le-ltb}
 use lib.Dec.{lit<}
 use lib.IntN.{ℤ}
-use lib.Pow.{pow-add, pow-pos, pow-mono, pow-lt}
-use lib.Ieee.{Float, fin, Format, binary32, binary64, prec, emax, low, up, down, size, nearest, hid, round, neg, sum, add, sub}
-use lib.Ieee.Digits.{size-lt, size-le}
+use lib.Pow.{pow-add, pow-pos, pow-lt}
+use lib.Ieee.{Float, fin, Format, binary32, binary64, prec, emax, low, up, down, nearest, hid, round, neg, sum, add, sub}
 use lib.Ieee.Exact.{HasValue, round-exact}
 use lib.Ieee.Fits.{down-pos, two}
 use lib.Ieee.Nearest.{closest, closest-mono, closest-same}
 use lib.Ieee.Order.{drop}
 use lib.Ieee.Scale.{grid, overflow, round-val}
+use Rattle.convert.proofs.Binary.{size-is}
 use Rattle.row.proofs.FloatValue.{over-one}
 
 -- ---- whole numbers
@@ -48,11 +50,6 @@ twice-hid : (f : Format) → 2 ^ prec f ≡ hid f + hid f
 twice-hid binary32 = refl
 twice-hid binary64 = refl
 
-size-between : (n j : ℕ) → 2 ^ j ≤ n → n < 2 ^ suc j → size n ≡ suc j
-size-between n j h k =
-    let b : j < size n = lt-of-not-le (λ (w : size n ≤ j). let x : n < 2 ^ j = lt-of-lt-of-le (size-lt n) (pow-mono w) in omega arith) in
-    omega (arith, size-le n (suc j) k)
-
 module _ (f : Format) (a c : ℕ) (z : 0 < c) (below : a < hid f * c) where
   abbrev shifted : ℕ
   shifted = a + hid f * c
@@ -72,7 +69,7 @@ module _ (f : Format) (a c : ℕ) (z : 0 < c) (below : a < hid f * c) where
       (le-trans (le-of-eq (ap (λ (x : ℕ). x * c) (pow-add 2 (prec f - 1) (low f)) ∙ mul-right-comm (hid f) (2 ^ low f) c)) (mul-le-mul-right (2 ^ low f) (omega arith))) in
       let hi : shifted * 2 ^ low f / c < 2 ^ suc (prec f - 1 + low f) = div-lt-iff-lt-mul z .1
       (lt-of-lt-of-le (mul-lt-mul-of-pos-right under (pow-pos (low f))) (le-of-eq (mul-right-comm (2 ^ prec f) c (2 ^ low f) ∙ ap (λ (x : ℕ). x * c) (sym (pow-add 2 (prec f) (low f)) ∙ ap (λ (x : ℕ). 2 ^ x) (sym j))))) in
-      omega (arith, size-between (shifted * 2 ^ low f / c) (prec f - 1 + low f) lo hi)
+      omega (arith, size-is (shifted * 2 ^ low f / c) (prec f - 1 + low f) lo hi)
 
   on-grid : grid f shifted c ≡ rounded * 2 ^ low f
   on-grid =

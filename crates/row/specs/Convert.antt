@@ -1,19 +1,18 @@
 -- The conversion of a row into a second row. RULES.md: Rows, Exact conversion.
 use Prim.Native.Nat.{ℕ}
-use mathlib.Core.Bool.{Bool, not, _&&_}
+use mathlib.Core.Bool.{not}
 use mathlib.Core.List.{List, [], _∷_}
-use lib.Dec.{eqb, ltb}
-use lib.IntN.{pos}
+use lib.Dec.{eqb}
 use lib.ListN.{length}
-use lib.Ieee.{Float, nan, binary32, ofBits, ofInt, toUnsigned, add, sub, eq, le}
+use lib.Ieee.{Float, nan}
 use Rattle.value.specs.declared.Kind.the-variants as kind
 use Rattle.value.specs.declared.Value.{Value}
 use Rattle.value.specs.declared.Value.the-variants.{U8, U16, F32}
 use Rattle.value.specs.Meaning.{Content, natural, integer, real, contentOf, bitsOf}
-use Rattle.value.specs.Outcome.{Outcome, mapped, Success}
+use Rattle.value.specs.Outcome.{Outcome, mapped, Success, lentAfter}
 use Rattle.value.specs.Rules.{Rule, rule, chain}
 use Rattle.convert.specs.Convert.{convertOf}
-use Rattle.row.specs.Row.{rowAnswer, rowResults, rowExit}
+use Rattle.row.specs.Row.{rowAnswer, rowResults}
 
 -- ---- one sample
 
@@ -49,36 +48,6 @@ unfoldable pub convertAnswer : {A B : Type 0} → (A → Outcome B) → List A �
 convertAnswer conv src dst = chain (lengthRules src dst) (rowAnswer conv 0 src)
 
 unfoldable pub convertExit : {A B : Type 0} → (A → Outcome B) → List A → List B → List B
-convertExit conv src dst = rowExit (convertAnswer conv src dst) (rowResults conv src) dst
+convertExit conv src dst = lentAfter (λ d. rowResults conv src) (convertAnswer conv src dst) dst
 
 -- ---- what the passes compute, by the language's own operators
-
--- a u16 that no u8 has the number of
-abbrev pub isWide : ℕ → Bool
-isWide n = ltb 255 n
-
--- the cast `n as f32`
-abbrev pub asF32 : ℕ → Float
-asF32 n = ofInt binary32 (pos n)
-
--- 0, 65535 and 2^23 as f32
-abbrev pub nought : Float
-nought = ofBits binary32 0x0000_0000
-
-abbrev pub lastU16 : Float
-lastU16 = ofBits binary32 0x477f_ff00
-
-abbrev pub shift : Float
-shift = ofBits binary32 0x4b00_0000
-
--- for a float from 0 up to 2^23: between 2^23 and 2^24 there are only whole numbers, so a fraction is lost on the way
-abbrev pub isWhole : Float → Bool
-isWhole x = eq (sub binary32 (add binary32 x shift) shift) x
-
--- an f32 that no u16 has the number of
-abbrev pub isMisfit : Float → Bool
-isMisfit x = not ((le nought x && le x lastU16) && isWhole x)
-
--- the cast `(x + 0) as u16`: minus zero plus zero is zero
-abbrev pub asU16 : Float → ℕ
-asU16 x = toUnsigned 16 (add binary32 x nought)

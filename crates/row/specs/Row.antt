@@ -30,11 +30,6 @@ unfoldable pub rowResults : {A B : Type 0} → (A → Outcome B) → List A → 
 rowResults conv [] = []
 rowResults conv (x ∷ xs) = sampleBefore (conv x) (rowResults conv xs)
 
--- the lent row at the end: the results, or after a refusal what it was
-abbrev pub rowExit : {B : Type 0} → Outcome Success → List B → List B → List B
-rowExit (gives d) results old = results
-rowExit (refuses number place) results old = old
-
 -- ---- what a looking pass finds
 
 -- the index of the first sample that passes a test, or the length

@@ -4,9 +4,10 @@ ghost use mathlib.Core.List.{map};
 ghost use Prim.Native.Nat.{_+_, _≤_};
 ghost use lib.ListN.{length, drop};
 ghost use Rattle.row.specs.Row.{rowedOutcome, first, any};
-ghost use Rattle.row.specs.Clamp.{isNotSelf, between, clampAnswer, clampExit};
+ghost use Rattle.row.specs.Clamp.{clampAnswer, clampExit};
+ghost use Rattle.row.specs.Inner.{isNotSelf, clampedFloat};
 use crate::Rowed;
-use cmp::Range;
+use choose::Range;
 use value::Refusal;
 
 // Whether a sample is a NaN. Every sample is looked at, so that the loop is compiled to vector code.
@@ -55,7 +56,7 @@ fn first_nan(row: &[f32]) -> usize
 }
 
 fn clamp_sample(x: f32, lower: f32, upper: f32) -> f32
-    ensures { λ r. ⌜ r ≡ between lower upper x ⌝ }
+    ensures { λ r. ⌜ r ≡ clampedFloat lower upper x ⌝ }
 {
     if x < lower {
         lower
@@ -67,7 +68,7 @@ fn clamp_sample(x: f32, lower: f32, upper: f32) -> f32
 }
 
 fn clamp_all(row: &mut [f32], lower: f32, upper: f32)
-    ensures { λ _. ⌜ now (row .exit) ≡ map (between lower upper) (now (row .entry)) ⌝ }
+    ensures { λ _. ⌜ now (row .exit) ≡ map (clampedFloat lower upper) (now (row .entry)) ⌝ }
 {
     let mut i = 0;
     while i < row.len() {

@@ -3,7 +3,8 @@ ghost use mathlib.Core.Path.{_≡_};
 ghost use mathlib.Core.List.{map};
 ghost use lib.ListN.{length};
 ghost use Rattle.row.specs.Row.{rowedOutcome};
-ghost use Rattle.row.specs.Convert.{u16ToF32, convertAnswer, convertExit, asF32};
+ghost use Rattle.row.specs.Convert.{u16ToF32, convertAnswer, convertExit};
+ghost use Rattle.row.specs.Inner.{asF32};
 use crate::Rowed;
 use value::Refusal;
 

@@ -4,7 +4,8 @@ ghost use mathlib.Core.List.{map};
 ghost use Prim.Native.Nat.{ℕ, _+_, _≤_};
 ghost use lib.ListN.{length, drop};
 ghost use Rattle.row.specs.Row.{rowedOutcome, first, any};
-ghost use Rattle.row.specs.Convert.{u16ToU8, convertAnswer, convertExit, isWide};
+ghost use Rattle.row.specs.Convert.{u16ToU8, convertAnswer, convertExit};
+ghost use Rattle.row.specs.Inner.{isWide};
 use crate::Rowed;
 use value::Refusal;
 

@@ -6,7 +6,8 @@ ghost use Prim.Native.Nat.{_+_, _≤_};
 ghost use lib.ListN.{length, drop};
 ghost use Rattle.value.specs.Outcome.{refuses};
 ghost use Rattle.row.specs.Row.{rowedOutcome, first, any};
-ghost use Rattle.row.specs.Convert.{f32ToU16, convertAnswer, convertExit, isWhole, isMisfit, asU16};
+ghost use Rattle.row.specs.Convert.{f32ToU16, convertAnswer, convertExit};
+ghost use Rattle.row.specs.Inner.{isWhole, isMisfit, asU16};
 use crate::Rowed;
 use value::Refusal;
 

@@ -11,9 +11,9 @@ use Rattle.float.specs.declared.Class.the-variants.{Zero, Subnormal, Normal, In
 use Rattle.value.specs.Outcome.{Outcome, gives, refuses}
 use Rattle.silamogo.specs.declared.Ordered.{Ordered}
 use Rattle.silamogo.specs.declared.Classed.{Classed}
-use Rattle.silamogo.specs.declared.Placed.{Placed}
+use Rattle.silamogo.specs.declared.Positioned.{Positioned}
 use Rattle.silamogo.specs.declared.Measured.{Measured}
-use Rattle.silamogo.specs.Answer.{orderNumber, orderedOf, classNumber, classedOf, placedOf, measuredOf}
+use Rattle.silamogo.specs.Answer.{orderNumber, orderedOf, classNumber, classedOf, positionedOf, measuredOf}
 use lib.ListN.{getD}
 use mathlib.Core.List.{[], _∷_}
 
@@ -56,11 +56,11 @@ classed-injective (gives a) (refuses n p) s t h = never (sym (ap (λ (r : Classe
 classed-injective (refuses n p) (gives b) s t h = never (ap (λ (r : Classed). r .number) h) s
 classed-injective (refuses n p) (refuses m q) s t h = refused-same (ap (λ (r : Classed). r .number) h) (ap (λ (r : Classed). r .place) h)
 
-pub placed-injective : (x y : Outcome ℤ) → Numbered x → Numbered y → placedOf x ≡ placedOf y → x ≡ y
-placed-injective (gives a) (gives b) s t h = ap gives (ap (λ (r : Placed). r .position) h)
-placed-injective (gives a) (refuses n p) s t h = never (sym (ap (λ (r : Placed). r .number) h)) t
-placed-injective (refuses n p) (gives b) s t h = never (ap (λ (r : Placed). r .number) h) s
-placed-injective (refuses n p) (refuses m q) s t h = refused-same (ap (λ (r : Placed). r .number) h) (ap (λ (r : Placed). r .place) h)
+pub positioned-injective : (x y : Outcome ℤ) → Numbered x → Numbered y → positionedOf x ≡ positionedOf y → x ≡ y
+positioned-injective (gives a) (gives b) s t h = ap gives (ap (λ (r : Positioned). r .position) h)
+positioned-injective (gives a) (refuses n p) s t h = never (sym (ap (λ (r : Positioned). r .number) h)) t
+positioned-injective (refuses n p) (gives b) s t h = never (ap (λ (r : Positioned). r .number) h) s
+positioned-injective (refuses n p) (refuses m q) s t h = refused-same (ap (λ (r : Positioned). r .number) h) (ap (λ (r : Positioned). r .place) h)
 
 pub measured-injective : (x y : Outcome ℕ) → Numbered x → Numbered y → measuredOf x ≡ measuredOf y → x ≡ y
 measured-injective (gives a) (gives b) s t h = ap gives (ap (λ (r : Measured). r .length) h)

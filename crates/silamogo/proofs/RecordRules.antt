@@ -1,33 +1,31 @@
 -- The rules before a record's own call: the first that holds refuses, and past them the library answers.
 use mathlib.Core.Path.{_≡_, refl, sym, _∙_, ap}
-use mathlib.Core.Bool.{Bool, true, false, not, _||_}
-use mathlib.Core.List.{List, map}
+use mathlib.Core.Bool.{Bool, true, false, _||_}
+use mathlib.Core.List.{List}
 use Prim.Native.Nat.{ℕ, _≤_, _<_}
 use lib.Dec.{ltb}
 use lib.ListN.{length}
-use borrow.Author.Tests.{lt-ltb, le-ltb, eq-eqb, ne-eqb, eqb-true}
+use borrow.Author.Tests.{lt-ltb, le-ltb, eq-eqb, ne-eqb, eqb-true, not-false}
 use Rattle.value.specs.declared.Refusal.{Refusal}
-use Rattle.value.specs.Outcome.{Outcome, gives, refuses, refuseIf}
+use Rattle.value.specs.Outcome.{Outcome, gives, refuses, refuseIf, lentAfter}
+use Rattle.value.proofs.Outcomes.{given-fills}
 use Rattle.record.specs.declared.Record.{Record}
 use Rattle.record.specs.declared.Recorded.{Recorded}
 use Rattle.record.specs.declared.Shape.{Shape}
 use Rattle.record.specs.declared.Made.the-variants as made
-use Rattle.record.specs.Record.{fieldsOf, compareOf, recordedOf}
+use Rattle.record.specs.Record.{compareOf, recordedOf}
 use Rattle.float.proofs.Tests.{neither}
 use Rattle.key.specs.declared.Written.{Written}
-use Rattle.key.specs.declared.Written.the-variants as written
 use Rattle.key.specs.Key.{writtenOutcome, writeOf, writeExit, readOf}
 use Rattle.key.proofs.ReadSteps.{read-count}
 use Rattle.silamogo.specs.declared.Answer.{Answer}
-use Rattle.silamogo.specs.Answer.{answerOf}
+use Rattle.silamogo.specs.declared.Measured.{Measured}
+use Rattle.silamogo.specs.Answer.{answerOf, measuredOf}
 use Rattle.silamogo.specs.Samples.{anyUnnamed, firstWide}
-use Rattle.silamogo.specs.Records.{samplesOf, recordFor, shapeFor, fieldBits, uneven, recordsOrder, keyLength, keyExit, recordRead, readExit, recordedOutcome, Room, successOf, bitsAfter}
+use Rattle.silamogo.specs.Records.{samplesOf, recordFor, shapeFor, recordBits, uneven, recordsOrder, keyLength, keyExit, recordRead, readExit, successOf}
+use Rattle.silamogo.specs.Inner.{recordedOutcome, Room}
 use Rattle.silamogo.proofs.Pairs.{pairs-length}
 use Rattle.silamogo.proofs.Filling.{shape-places}
-
-not-false : (t : Bool) → not t ≡ false → t ≡ true
-not-false true h = refl
-not-false false h = sym h
 
 even-lengths : (ns bs : List ℕ) → uneven ns bs ≡ false → length ns ≡ length bs
 even-lengths ns bs h = eqb-true (length ns) (length bs) (not-false _ h)
@@ -80,34 +78,34 @@ module _ (ns xs ms ys : List ℕ) {s t : Bool} (s-is : s ≡ anyUnnamed ns) (t-i
 
 module _ (ns bs old : List ℕ) where
   -- what a refusal answers and leaves
-  abbrev pub Left : Written → List ℕ → Type 0
-  Left w new = (writtenOutcome w ≡ keyLength ns bs (length old)) × (new ≡ keyExit ns bs old)
+  abbrev pub Left : Measured → List ℕ → Type 0
+  Left m new = (m ≡ measuredOf (keyLength ns bs (length old))) × (new ≡ keyExit ns bs old)
 
-  refused-so : {n p : ℕ} {w : Written} → w ≡ written.Refused (record { number = n; place = p }) → refuses n p ≡ keyLength ns bs (length old) → Left w old
+  refused-so : {n p : ℕ} {m : Measured} → m ≡ measuredOf (refuses n p) → refuses n p ≡ keyLength ns bs (length old) → Left m old
   unfolding keyExit
-  refused-so q h = (ap writtenOutcome q ∙ h, rw (← h))
+  refused-so q h = (q ∙ ap measuredOf h, rw (← h))
 
   module _ {s : Bool} (s-is : s ≡ anyUnnamed ns) where
-    pub write-unnamed : s ≡ true → {w : Written} → w ≡ written.Refused (record { number = 7; place = 0 }) → Left w old
+    pub write-unnamed : s ≡ true → {m : Measured} → m ≡ measuredOf (refuses 7 0) → Left m old
     unfolding keyLength
     write-unnamed h q = refused-so q (rw (← s-is, h))
 
     module _ (named : s ≡ false) where
-      pub write-uneven : (length ns ≡ length bs → ⊥) → {w : Written} → w ≡ written.Refused (record { number = 9; place = 0 }) → Left w old
+      pub write-uneven : (length ns ≡ length bs → ⊥) → {m : Measured} → m ≡ measuredOf (refuses 9 0) → Left m old
       unfolding keyLength
       write-uneven h q = refused-so q (rw (← s-is, named, ne-eqb (length ns) (length bs) h))
 
       module _ (even : length ns ≡ length bs) {i : ℕ} (i-is : i ≡ firstWide (samplesOf ns bs)) where
-        pub write-wide : i < length ns → {w : Written} → w ≡ written.Refused (record { number = 4; place = i }) → Left w old
+        pub write-wide : i < length ns → {m : Measured} → m ≡ measuredOf (refuses 4 i) → Left m old
         unfolding keyLength
         write-wide h q = refused-so q (rw (← s-is, named, eq-eqb (length ns) (length bs) even) (wide-stop ns bs even i-is _ h))
 
         pub write-given : length ns ≤ i → {r : Record} → r ≡ recordFor (samplesOf ns bs) → (w : Written) (new : List ℕ)
-            → (writtenOutcome w ≡ writeOf r (length old)) × (new ≡ writeExit r old) → Left w new
+            → (writtenOutcome w ≡ writeOf r (length old)) × (new ≡ writeExit r old) → {m : Measured} → m ≡ measuredOf (writtenOutcome w) → Left m new
         unfolding keyLength keyExit writeExit
-        write-given h q w new e =
+        write-given h q w new e a =
             let past : writeOf (recordFor (samplesOf ns bs)) (length old) ≡ keyLength ns bs (length old) = rw (← s-is, named, eq-eqb (length ns) (length bs) even) (sym (wide-past ns bs even i-is _ h)) in
-            (rw q at (e .0) ∙ past, rw q at (e .1) ∙ rw (← past))
+            (a ∙ ap measuredOf (rw q at (e .0) ∙ past), rw q at (e .1) ∙ rw (← past))
 
 -- ---- reading a key
 
@@ -120,13 +118,16 @@ module _ (x : Recorded) (old : List ℕ) where
     pub done-room : {n : ℕ} → Room (recordedOutcome x) n → (x .«record» .count ≤ 12) × (n ≡ x .«record» .count)
     done-room h = rw q at h
 
-    pub done-bits : (new : List ℕ) → new ≡ map fieldBits (fieldsOf (x .«record»))
-        → (_≡_ {A = Answer} (record { number = 0; place = 0 }) (answerOf (successOf (recordedOutcome x)))) × (new ≡ bitsAfter (recordedOutcome x) old)
-    done-bits new e = (rw q, rw q e)
+    pub done-bits : (new : List ℕ) → length new ≡ length old → new ≡ recordBits (x .«record»)
+        → (_≡_ {A = Answer} (record { number = 0; place = 0 }) (answerOf (successOf (recordedOutcome x))))
+        × (new ≡ lentAfter recordBits (recordedOutcome x) old)
+    done-bits new same e =
+        let o : recordedOutcome x ≡ gives (x .«record») = rw q in
+        (rw q, e ∙ sym (given-fills recordBits old o (sym (ap length e) ∙ same)))
 
-  pub refused-bits : (f : Refusal) → x .outcome ≡ made.Refused f
-      → (_≡_ {A = Answer} (record { number = f .number; place = f .place }) (answerOf (successOf (recordedOutcome x)))) × (old ≡ bitsAfter (recordedOutcome x) old)
-  refused-bits f q = (rw q, rw q)
+  pub refused-bits : (f : Refusal) → x .outcome ≡ made.Refused f → {a : Answer} → a ≡ answerOf (refuses (f .number) (f .place))
+      → (a ≡ answerOf (successOf (recordedOutcome x))) × (old ≡ lentAfter recordBits (recordedOutcome x) old)
+  refused-bits f q e = (rw q e, rw q)
 
 module _ (ns key old : List ℕ) where
   abbrev pub Read : Answer → List ℕ → Type 0
@@ -157,7 +158,8 @@ module _ (ns key old : List ℕ) where
             go (gives r) e = let q = read-count (shapeFor ns) key r (shape-places ns) e in (rw (← q .0) at (q .1), sym even ∙ sym (q .0))
             go (refuses n p) e = tt
 
-        pub read-given : (a : Answer) (new : List ℕ) → (a ≡ answerOf (successOf (recordedOutcome x))) × (new ≡ bitsAfter (recordedOutcome x) old) → Read a new
+        pub read-given : (a : Answer) (new : List ℕ) → (a ≡ answerOf (successOf (recordedOutcome x)))
+            × (new ≡ lentAfter recordBits (recordedOutcome x) old) → Read a new
         unfolding recordRead readExit
         read-given a new e =
             let past : readOf (shapeFor ns) key ≡ recordRead ns key (length old) = rw (← s-is, named, eq-eqb (length ns) (length old) even) in

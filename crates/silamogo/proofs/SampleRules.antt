@@ -9,11 +9,12 @@ use Rattle.value.specs.declared.Kind.{Kind}
 use Rattle.value.specs.declared.Value.{Value}
 use Rattle.value.specs.Outcome.{Outcome, refuses, refuseIf}
 use Rattle.value.specs.Rules.{chain}
-use Rattle.cmp.specs.Choose as choose
+use Rattle.choose.specs.Choose as choose
 use Rattle.convert.specs.Convert as convert
 use Rattle.float.proofs.Tests.{neither}
 use Rattle.silamogo.specs.declared.Sample.{Sample}
-use Rattle.silamogo.specs.Samples.{unnamed, anyUnnamed, kindFor, tooWide, anyWide, valueFor, ruleFor}
+use Rattle.silamogo.specs.Samples.{unnamed, anyUnnamed, kindFor, tooWide, anyWide, valueFor}
+use Rattle.silamogo.specs.Inner.{ruleFor}
 use Rattle.silamogo.specs.Single.{twoThen, clampOf, convertOf, notFloat, ofFloat, floatRules}
 
 -- ---- the tests, one after the other

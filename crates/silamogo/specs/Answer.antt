@@ -10,11 +10,11 @@ use Rattle.value.specs.declared.Value.{Value}
 use Rattle.value.specs.Kinds.{kindOf, kindNumber}
 use Rattle.value.specs.Meaning.{bitsOf}
 use Rattle.value.specs.Outcome.{Outcome, gives, refuses, Success}
-use Rattle.cmp.specs.declared.Range.{Range}
+use Rattle.choose.specs.declared.Range.{Range}
 use Rattle.silamogo.specs.declared.Answer.{Answer}
 use Rattle.silamogo.specs.declared.Ordered.{Ordered}
 use Rattle.silamogo.specs.declared.Classed.{Classed}
-use Rattle.silamogo.specs.declared.Placed.{Placed}
+use Rattle.silamogo.specs.declared.Positioned.{Positioned}
 use Rattle.silamogo.specs.declared.Sampled.{Sampled}
 use Rattle.silamogo.specs.declared.Measured.{Measured}
 
@@ -44,9 +44,9 @@ abbrev pub classedOf : Outcome Class → Classed
 classedOf (gives c) = record { number = 0; place = 0; class = classNumber c }
 classedOf (refuses number place) = record { number = number; place = place; class = 0 }
 
-abbrev pub placedOf : Outcome ℤ → Placed
-placedOf (gives z) = record { number = 0; place = 0; position = z }
-placedOf (refuses number place) = record { number = number; place = place; position = pos 0 }
+abbrev pub positionedOf : Outcome ℤ → Positioned
+positionedOf (gives z) = record { number = 0; place = 0; position = z }
+positionedOf (refuses number place) = record { number = number; place = place; position = pos 0 }
 
 abbrev pub sampledOf : Outcome Value → Sampled
 sampledOf (gives v) = record { number = 0; place = 0; kind = kindNumber (kindOf v); bits = bitsOf v }

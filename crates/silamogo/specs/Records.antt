@@ -1,6 +1,5 @@
 -- Records and keys as they pass the boundary: a list of kind numbers and a list of bits. RULES.md: The boundary.
-use Prim.Native.Nat.{ℕ, zero, suc, _≤_}
-use mathlib.Core.Path.{_≡_}
+use Prim.Native.Nat.{ℕ, zero, suc}
 use mathlib.Core.Bool.{Bool, not, _||_}
 use mathlib.Core.List.{List, [], _∷_, map}
 use lib.Dec.{eqb}
@@ -9,17 +8,14 @@ use Rattle.float.specs.declared.Order.{Order}
 use Rattle.value.specs.declared.Kind.the-variants as kind
 use Rattle.value.specs.declared.Value.the-variants.{U8}
 use Rattle.value.specs.Meaning.{bitsOf}
-use Rattle.value.specs.Outcome.{Outcome, gives, refuses, refusalOf, Success, done, mapped}
+use Rattle.value.specs.Outcome.{Outcome, Success, done, mapped, lentAfter}
 use Rattle.value.specs.Rules.{Rule, rule, chain}
 use Rattle.record.specs.declared.Field.{Field}
 use Rattle.record.specs.declared.Place.{Place}
 use Rattle.record.specs.declared.Record.{Record}
 use Rattle.record.specs.declared.Shape.{Shape}
-use Rattle.record.specs.declared.Recorded.{Recorded}
-use Rattle.record.specs.declared.Made.{Made}
-use Rattle.record.specs.declared.Made.the-variants as made
 use Rattle.record.specs.Record.{fieldFor, fieldsOf, placeFor, compareOf}
-use Rattle.key.specs.Key.{keyOf, writeOf, bufferAfter, readOf}
+use Rattle.key.specs.Key.{keyOf, writeOf, readOf}
 use Rattle.silamogo.specs.declared.Sample.{Sample}
 use Rattle.silamogo.specs.Samples.{anyUnnamed, kindFor, valueFor, wideRule}
 
@@ -56,6 +52,9 @@ shapeFor ns = record { places = padded 12 (placeFor kind.U8) (map placeIn ns); c
 abbrev pub fieldBits : Field → ℕ
 fieldBits f = bitsOf (f .value)
 
+abbrev pub recordBits : Record → List ℕ
+recordBits r = map fieldBits (fieldsOf r)
+
 -- ---- the rules before a call's own
 
 -- 9: two lists that differ in length
@@ -85,37 +84,20 @@ recordsOrder ns xs ms ys = chain (twoRecordsRules ns xs ms ys) (compareOf (recor
 unfoldable pub keyLength : List ℕ → List ℕ → ℕ → Outcome ℕ
 keyLength ns bs room = chain (fieldRules ns bs) (writeOf (recordFor (samplesOf ns bs)) room)
 
--- the buffer at the end: the key and what stood behind it, or after a refusal what it was
+-- the buffer at the end
 unfoldable pub keyExit : List ℕ → List ℕ → List ℕ → List ℕ
-keyExit ns bs old = bufferAfter (keyLength ns bs (length old)) (keyOf (fieldsOf (recordFor (samplesOf ns bs)))) old
+keyExit ns bs old = lentAfter (λ n. keyOf (fieldsOf (recordFor (samplesOf ns bs)))) (keyLength ns bs (length old)) old
 
 -- into a lent row of `room` bits
 unfoldable pub recordRead : List ℕ → List ℕ → ℕ → Outcome Record
 recordRead ns key room = chain (roomRules ns room) (readOf (shapeFor ns) key)
 
--- the row at the end: the bits of each field, or after a refusal what it was
-abbrev pub bitsAfter : Outcome Record → List ℕ → List ℕ
-bitsAfter (gives r) old = map fieldBits (fieldsOf r)
-bitsAfter (refuses number place) old = old
-
+-- the row at the end
 unfoldable pub readExit : List ℕ → List ℕ → List ℕ → List ℕ
-readExit ns key old = bitsAfter (recordRead ns key (length old)) old
+readExit ns key old = lentAfter recordBits (recordRead ns key (length old)) old
 
 -- a call that gives nothing but its success
 abbrev pub successOf : {A : Type 0} → Outcome A → Outcome Success
 successOf o = mapped (λ r. done) o
 
 -- ---- what the code's own steps are held to
-
--- what a record beside its outcome says
-abbrev pub outcomeBeside : Record → Made → Outcome Record
-outcomeBeside r made.Done = gives r
-outcomeBeside r (made.Refused f) = refusalOf f
-
-abbrev pub recordedOutcome : Recorded → Outcome Record
-recordedOutcome x = outcomeBeside (x .«record») (x .outcome)
-
--- a row of `room` bits has one for each field of the record
-abbrev pub Room : Outcome Record → ℕ → Type 0
-Room (gives r) room = (r .count ≤ 12) × (room ≡ r .count)
-Room (refuses number place) room = Unit {0}

@@ -67,7 +67,3 @@ anyWide (s ∷ ss) = tooWide s || anyWide ss
 -- 7 for a number that names no kind, 4 for bits that a kind doesn't have
 abbrev pub samplesRules : List ℕ → List Sample → List Rule
 samplesRules ns ss = rule 7 0 (anyUnnamed ns) ∷ rule 4 0 (anyWide ss) ∷ []
-
--- the number of the rule that holds, 0 for none
-abbrev pub ruleFor : Bool → Bool → ℕ
-ruleFor unnamed wide = cond unnamed 7 (cond wide 4 0)

@@ -11,7 +11,7 @@ use Rattle.value.specs.declared.Value.{Value}
 use Rattle.value.specs.Outcome.{Outcome, gives}
 use Rattle.value.specs.Rules.{Rule, rule, chain}
 use Rattle.cmp.specs.Compare as cmp
-use Rattle.cmp.specs.Choose as choose
+use Rattle.choose.specs.Choose as choose
 use Rattle.convert.specs.Convert as convert
 use Rattle.silamogo.specs.declared.Sample.{Sample}
 use Rattle.silamogo.specs.Samples.{kindFor, anyWide, valueFor, samplesRules}
@@ -66,5 +66,5 @@ floatRules s = rule 7 0 (notFloat (s .kind)) ∷ rule 4 0 (anyWide (s ∷ [])) �
 unfoldable pub classifyOf : Sample → Outcome Class
 classifyOf s = chain (floatRules s) (gives (ofFloat classOf s))
 
-unfoldable pub placeOf : Sample → Outcome ℤ
-placeOf s = chain (floatRules s) (gives (ofFloat positionOf s))
+unfoldable pub samplePosition : Sample → Outcome ℤ
+samplePosition s = chain (floatRules s) (gives (ofFloat positionOf s))

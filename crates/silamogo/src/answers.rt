@@ -1,21 +1,28 @@
 // What the libraries answered, as numbers. RULES.md: The boundary.
 ghost use mathlib.Core.Path.{_≡_};
 ghost use Rattle.value.specs.Outcome.{gives, refuses};
-ghost use Rattle.cmp.specs.Choose.{chosenOutcome};
+ghost use Rattle.choose.specs.Choose.{chosenOutcome};
 ghost use Rattle.cmp.specs.Compare.{comparedOutcome};
 ghost use Rattle.convert.specs.Convert.{convertedOutcome};
 ghost use Rattle.key.specs.Key.{writtenOutcome};
-ghost use Rattle.silamogo.specs.Answer.{orderNumber, orderedOf, classNumber, sampledOf, measuredOf};
+ghost use Rattle.silamogo.specs.Answer.{answerOf, orderNumber, orderedOf, classNumber, sampledOf, measuredOf};
+use crate::Answer;
 use crate::Measured;
 use crate::Ordered;
 use crate::Sampled;
-use cmp::Chosen;
+use choose::Chosen;
 use cmp::Compared;
 use convert::Converted;
 use float::Class;
 use float::Order;
 use key::Written;
 use value::Value;
+
+pub(crate) fn answer_refused(number: u8, place: usize) -> Answer
+    ensures { λ r. ⌜ r ≡ answerOf (refuses number place) ⌝ }
+{
+    Answer { number, place }
+}
 
 fn order_number(o: Order) -> u8
     ensures { λ r. ⌜ r ≡ orderNumber o ⌝ }
@@ -28,6 +35,16 @@ fn order_number(o: Order) -> u8
     }
 }
 
+pub(crate) fn order_refused(number: u8, place: usize) -> Ordered
+    ensures { λ r. ⌜ r ≡ orderedOf (refuses number place) ⌝ }
+{
+    Ordered {
+        number,
+        place,
+        order: 0,
+    }
+}
+
 pub(crate) fn ordered_by(c: Compared) -> Ordered
     ensures { λ r. ⌜ r ≡ orderedOf (comparedOutcome c) ⌝ }
 {
@@ -37,11 +54,17 @@ pub(crate) fn ordered_by(c: Compared) -> Ordered
             place: 0,
             order: order_number(o),
         },
-        Compared::Refused(f) => Ordered {
-            number: f.number,
-            place: f.place,
-            order: 0,
-        },
+        Compared::Refused(f) => order_refused(f.number, f.place),
+    }
+}
+
+pub(crate) fn measure_refused(number: u8, place: usize) -> Measured
+    ensures { λ r. ⌜ r ≡ measuredOf (refuses number place) ⌝ }
+{
+    Measured {
+        number,
+        place,
+        length: 0,
     }
 }
 
@@ -54,11 +77,7 @@ pub(crate) fn measured_by(w: Written) -> Measured
             place: 0,
             length: n,
         },
-        Written::Refused(f) => Measured {
-            number: f.number,
-            place: f.place,
-            length: 0,
-        },
+        Written::Refused(f) => measure_refused(f.number, f.place),
     }
 }
 

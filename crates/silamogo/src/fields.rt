@@ -3,7 +3,7 @@ ghost use mathlib.Core.Path.{_≡_};
 ghost use mathlib.Core.List.{map};
 ghost use Prim.Native.Nat.{_≤_, min};
 ghost use lib.ListN.{length};
-ghost use Rattle.record.specs.Record.{fieldsOf, blankShape};
+ghost use Rattle.record.specs.Record.{fieldsOf};
 ghost use Rattle.silamogo.specs.Samples.{anyUnnamed, firstWide};
 ghost use Rattle.silamogo.specs.Records.{samplesOf, recordFor, shapeFor, fieldBits};
 use crate::Sample;
@@ -15,7 +15,6 @@ use record::Field;
 use record::Place;
 use record::Record;
 use record::Shape;
-use value::Kind;
 
 pub(crate) fn any_unnamed(kinds: &[u8]) -> bool
     ensures { λ r. ⌜ r ≡ anyUnnamed (now (kinds .entry)) ⌝ }
@@ -77,21 +76,11 @@ pub(crate) fn record_for(kinds: &[u8], bits: &[u64]) -> Record
     made
 }
 
-fn blank_shape() -> Shape
-    ensures { λ s. ⌜ s ≡ blankShape ⌝ }
-{
-    let p = Place { kind: Kind::U8 };
-    Shape {
-        places: [p; 12],
-        count: 0,
-    }
-}
-
 pub(crate) fn shape_for(kinds: &[u8]) -> Shape
     ensures { λ s. ⌜ s ≡ shapeFor (now (kinds .entry)) ⌝ }
 {
     let end = places_for(kinds.len());
-    let mut made = blank_shape();
+    let mut made = record::blank_shape();
     let mut at = 0;
     while at < end {
         made.places[at] = Place {

@@ -2,11 +2,11 @@
 ghost use mathlib.Core.Path.{_≡_};
 ghost use mathlib.Core.Bool.{false};
 ghost use Rattle.float.specs.Format.{classOf, positionOf};
-ghost use Rattle.silamogo.specs.Answer.{classedOf, placedOf};
+ghost use Rattle.silamogo.specs.Answer.{classedOf, positionedOf};
 ghost use Rattle.silamogo.specs.Samples.{tooWide};
-ghost use Rattle.silamogo.specs.Single.{ofFloat, classifyOf, placeOf};
+ghost use Rattle.silamogo.specs.Single.{ofFloat, classifyOf, samplePosition};
 use crate::Classed;
-use crate::Placed;
+use crate::Positioned;
 use crate::Sample;
 use crate::answers::class_number;
 use crate::samples::rule_of_float;
@@ -54,18 +54,18 @@ pub extern "C" fn silamogo_classify(s: Sample) -> Classed
 }
 
 #[no_mangle]
-pub extern "C" fn silamogo_position(s: Sample) -> Placed
-    ensures { λ r. ⌜ r ≡ placedOf (placeOf s) ⌝ }
+pub extern "C" fn silamogo_position(s: Sample) -> Positioned
+    ensures { λ r. ⌜ r ≡ positionedOf (samplePosition s) ⌝ }
 {
     let rule = rule_of_float(s);
     if rule != 0 {
-        return Placed {
+        return Positioned {
             number: rule,
             place: 0,
             position: 0,
         };
     }
-    Placed {
+    Positioned {
         number: 0,
         place: 0,
         position: position_of(s),

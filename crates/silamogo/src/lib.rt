@@ -57,7 +57,7 @@ pub struct Classed {
 
 // A position in the total order.
 #[repr(C)]
-pub struct Placed {
+pub struct Positioned {
     pub number: u8,
     pub place: usize,
     pub position: i64,

@@ -5,7 +5,8 @@ ghost use Rattle.row.specs.Clamp.{clampAnswer, clampExit};
 ghost use Rattle.row.specs.Convert.{u8ToU16, u16ToU8, u16ToF32, f32ToU16, convertAnswer, convertExit};
 ghost use Rattle.silamogo.specs.Answer.{answerOf, boundsOf};
 use crate::Answer;
-use cmp::Range;
+use crate::answers::answer_refused;
+use choose::Range;
 use row::Rowed;
 
 // What a row operation answered, as numbers.
@@ -17,10 +18,7 @@ fn answer(r: Rowed) -> Answer
             number: 0,
             place: 0,
         },
-        Rowed::Refused(f) => Answer {
-            number: f.number,
-            place: f.place,
-        },
+        Rowed::Refused(f) => answer_refused(f.number, f.place),
     }
 }
 

@@ -4,7 +4,8 @@ ghost use mathlib.Core.Path.{_≡_};
 ghost use Prim.Native.Nat.{_-_, _^_};
 ghost use Rattle.value.specs.Kinds.{widthOf};
 ghost use Rattle.silamogo.specs.Samples as spec;
-ghost use Rattle.silamogo.specs.Samples.{anyUnnamed, kindFor, tooWide, valueFor, anyWide, ruleFor};
+ghost use Rattle.silamogo.specs.Samples.{anyUnnamed, kindFor, tooWide, valueFor, anyWide};
+ghost use Rattle.silamogo.specs.Inner.{ruleFor};
 ghost use Rattle.silamogo.specs.Single.{notFloat};
 use crate::Sample;
 use value::Kind;
@@ -33,12 +34,7 @@ pub(crate) fn kind_for(number: u8) -> Kind
 fn highest(k: Kind) -> u64
     ensures { λ r. ⌜ r ≡ 2 ^ widthOf k - 1 ⌝ }
 {
-    match k {
-        Kind::U8 | Kind::I8 => 0xff,
-        Kind::U16 | Kind::I16 => 0xffff,
-        Kind::U32 | Kind::I32 | Kind::F32 => 0xffff_ffff,
-        Kind::U64 | Kind::I64 | Kind::F64 => 0xffff_ffff_ffff_ffff,
-    }
+    0xffff_ffff_ffff_ffff >> (64 - value::width_of(k))
 }
 
 pub(crate) fn too_wide(s: Sample) -> bool

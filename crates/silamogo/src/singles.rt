@@ -1,11 +1,11 @@
 // Single samples: compared, chosen, clamped, converted. RULES.md: The boundary.
 ghost use mathlib.Core.Path.{_≡_};
-ghost use Rattle.value.specs.Outcome.{refuses};
 ghost use Rattle.silamogo.specs.Answer.{orderedOf, sampledOf};
 ghost use Rattle.silamogo.specs.Single.{compareOf, totalOf, minOf, maxOf, clampOf, convertOf};
 use crate::Ordered;
 use crate::Sample;
 use crate::Sampled;
+use crate::answers::order_refused;
 use crate::answers::ordered_by;
 use crate::answers::sample_refused;
 use crate::answers::sampled_by;
@@ -15,16 +15,6 @@ use crate::samples::rule_of_target;
 use crate::samples::rule_of_three;
 use crate::samples::rule_of_two;
 use crate::samples::value_for;
-
-fn order_refused(number: u8, place: usize) -> Ordered
-    ensures { λ r. ⌜ r ≡ orderedOf (refuses number place) ⌝ }
-{
-    Ordered {
-        number,
-        place,
-        order: 0,
-    }
-}
 
 #[no_mangle]
 pub extern "C" fn silamogo_compare(a: Sample, b: Sample) -> Ordered
@@ -56,7 +46,7 @@ pub extern "C" fn silamogo_min(a: Sample, b: Sample) -> Sampled
     if rule != 0 {
         return sample_refused(rule, 0);
     }
-    sampled_by(cmp::min(value_for(a), value_for(b)))
+    sampled_by(choose::min(value_for(a), value_for(b)))
 }
 
 #[no_mangle]
@@ -67,7 +57,7 @@ pub extern "C" fn silamogo_max(a: Sample, b: Sample) -> Sampled
     if rule != 0 {
         return sample_refused(rule, 0);
     }
-    sampled_by(cmp::max(value_for(a), value_for(b)))
+    sampled_by(choose::max(value_for(a), value_for(b)))
 }
 
 #[no_mangle]
@@ -78,7 +68,7 @@ pub extern "C" fn silamogo_clamp(v: Sample, lower: Sample, upper: Sample) -> Sam
     if rule != 0 {
         return sample_refused(rule, 0);
     }
-    sampled_by(cmp::clamp(value_for(v), value_for(lower), value_for(upper)))
+    sampled_by(choose::clamp(value_for(v), value_for(lower), value_for(upper)))
 }
 
 #[no_mangle]

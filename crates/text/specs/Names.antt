@@ -1,10 +1,9 @@
 -- The names of the kinds and their hex digits.
-use Prim.Native.Nat.{ℕ, _+_, _/_}
+use Prim.Native.Nat.{ℕ, _/_}
 use mathlib.Core.List.{List, [], _∷_}
-use Rattle.float.specs.Format.{fractionOf, exponentOf}
 use Rattle.value.specs.declared.Kind.{Kind}
 use Rattle.value.specs.declared.KindFound.{KindFound}
-use Rattle.value.specs.Kinds.{Form, unsigned, signed, float, formOf, kindAt}
+use Rattle.value.specs.Kinds.{kindAt, widthOf}
 use Rattle.text.specs.Words.{numberAmong}
 
 -- u8 u16 u32 u64 i8 i16 i32 i64 f32 f64, in the order of the kinds
@@ -26,11 +25,6 @@ kindNames =
 unfoldable pub kindNamed : List ℕ → KindFound
 kindNamed s = kindAt (numberAmong s kindNames)
 
--- four bits to a digit; a float has a sign bit beside its exponent and its fraction
-abbrev pub digitsIn : Form → ℕ
-digitsIn (unsigned bits) = bits / 4
-digitsIn (signed bits) = bits / 4
-digitsIn (float format) = (1 + exponentOf format + fractionOf format) / 4
-
+-- four bits to a digit
 abbrev pub digitsOf : Kind → ℕ
-digitsOf k = digitsIn (formOf k)
+digitsOf k = widthOf k / 4

@@ -5,6 +5,7 @@ use crate::words::word_number;
 use value::Kind;
 use value::KindFound;
 use value::kind_of_number;
+use value::width_of;
 
 // The names stand in the order of the kinds.
 pub const KIND_NAMES: [u8; 37] = *b"u8 u16 u32 u64 i8 i16 i32 i64 f32 f64";
@@ -18,16 +19,5 @@ pub fn kind_named(s: &[u8]) -> KindFound
 pub fn digits_of(k: Kind) -> usize
     ensures { λ r. ⌜ r ≡ digitsOf k ⌝ }
 {
-    match k {
-        Kind::U8 => 2,
-        Kind::U16 => 4,
-        Kind::U32 => 8,
-        Kind::U64 => 16,
-        Kind::I8 => 2,
-        Kind::I16 => 4,
-        Kind::I32 => 8,
-        Kind::I64 => 16,
-        Kind::F32 => 8,
-        Kind::F64 => 16,
-    }
+    width_of(k) / 4
 }

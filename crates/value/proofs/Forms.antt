@@ -2,26 +2,26 @@
 use mathlib.Core.Path.{_≡_, refl, sym, _∙_}
 use mathlib.Core.Logic.{_⊎_, inl, inr}
 use Prim.Native.Nat.{ℕ}
-use lib.Dec.{T, ltb}
+use lib.Dec.{T}
 use lib.IntN.{ℤ, natAbs}
 use lib.Ieee.{Float, Format, binary32, binary64}
 use Rattle.value.specs.declared.Kind.{Kind}
 use Rattle.value.specs.declared.Kind.the-variants as kind
 use Rattle.value.specs.declared.Value.{Value}
 use Rattle.value.specs.declared.Value.the-variants.{U8, U16, U32, U64, I8, I16, I32, I64, F32, F64}
-use Rattle.value.specs.Kinds.{kindOf, kindNumber, float, formOf}
+use Rattle.value.specs.Kinds.{kindOf, floating, formOf, isInteger}
 use Rattle.value.specs.Meaning.{real, contentOf, positionOf}
 
--- the kind is one of the first eight
+-- the kind is an integer kind
 abbrev pub Whole : Value → Type 0
-Whole v = T (ltb (kindNumber (kindOf v)) 8)
+Whole v = T (isInteger (formOf (kindOf v)))
 
 pub record Floating (v : Value) : Type 0 where
   pub format : Format
   pub number : Float
   pub word : ℕ
   pub content : contentOf v ≡ real format number word
-  pub form : formOf (kindOf v) ≡ float format
+  pub form : formOf (kindOf v) ≡ floating format
   pub not-whole : Whole v → ⊥
 
 pub whole-or-floating : (v : Value) → Whole v ⊎ Floating v

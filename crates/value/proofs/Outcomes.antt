@@ -1,10 +1,13 @@
 -- An outcome of one answer tells the answer: a refusal is its number and its place.
-use mathlib.Core.Path.{_≡_, refl, sym, _∙_}
+use mathlib.Core.Path.{_≡_, refl, sym, _∙_, ap}
 use mathlib.Core.Bool.{Bool, true, false}
+use mathlib.Core.List.{List, _++_, append-nil}
 use Prim.Native.Nat.{ℕ}
+use lib.ListN.{length, drop}
+use lib.Seq.{drop-length}
 use Rattle.float.proofs.Tests.{clash}
 use Rattle.value.specs.declared.Refusal.{Refusal}
-use Rattle.value.specs.Outcome.{Outcome, gives, refuses, refuseIf, refusalOf}
+use Rattle.value.specs.Outcome.{Outcome, gives, refuses, refuseIf, refusalOf, lentAfter}
 
 made : ℕ → ℕ → Refusal
 made number place = record { number = number; place = place }
@@ -26,3 +29,18 @@ refuse-passes false n p next a h = (refl, h)
 -- one refusal is one number and one place
 pub refuses-same : {A : Type 0} {n p m q : ℕ} → _≡_ {A = Outcome A} (refuses n p) (refuses m q) → (n ≡ m) × (p ≡ q)
 refuses-same h = (cc, cc)
+
+-- ---- lent memory
+
+module _ {A B : Type 0} (laid : A → List B) (old : List B) where
+  -- refused, so unchanged
+  pub refused-unchanged : {o : Outcome A} {n p : ℕ} → o ≡ refuses n p → lentAfter laid o old ≡ old
+  refused-unchanged h = ap (λ o. lentAfter laid o old) h
+
+  -- what fills it leaves nothing behind it
+  pub given-fills : {o : Outcome A} {a : A} → o ≡ gives a → length (laid a) ≡ length old → lentAfter laid o old ≡ laid a
+  given-fills {o} {a} h same =
+      ap (λ o. lentAfter laid o old) h
+      ∙ ap (λ (n : ℕ). laid a ++ drop n old) same
+      ∙ ap (λ (l : List B). laid a ++ l) (drop-length old)
+      ∙ append-nil (laid a)

@@ -12,8 +12,18 @@ use lib.Signed.{mag, leZ, nonNeg}
 use mir.Syntax.{Width, w64}
 use mir.Val.{Fits, SFits, hbits, toZ, ofZ}
 use mir.ValLaws.{toZ-ofZ, half-full}
-use Rattle.value.specs.Meaning.{twosOf, fromTwos}
+use Rattle.value.specs.Meaning.{fitsSigned, twosOf, fromTwos}
 use Rattle.float.proofs.Naturals.{lt-or-ge}
+
+-- ---- the range of a signed kind, in the library's word
+
+pub fits-below : (half : ℕ) (z : ℤ) → fitsSigned half z → mag z < half
+fits-below half (pos n) h = h
+fits-below half (negsuc n) h = h
+
+pub below-fits : (half : ℕ) (z : ℤ) → mag z < half → fitsSigned half z
+below-fits half (pos n) h = h
+below-fits half (negsuc n) h = h
 
 -- ---- the machine's reading of a signed number z, where it tests 0 <= z
 
@@ -77,6 +87,17 @@ module _ {v : Width} (w : Width) {z : ℤ} (f : SFits v z) (g : SFits w z) where
 
   pub recast-back : toZ w (ofZ w (toZ v (ofZ v z))) ≡ z
   recast-back = toZ-ofZ w _ recast ∙ toZ-ofZ v z f
+
+-- a word's number that a narrower width holds
+module _ (w : Width) (z : ℤ) (h : mag z < 2 ^ hbits w) (l : 2 ^ hbits w ≤ 2 ^ 63) where
+  in-word : SFits w64 z
+  in-word = record { sfits = lt-of-lt-of-le h l }
+
+  pub narrowed : SFits w (toZ w64 (ofZ w64 z))
+  narrowed = recast w in-word (record { sfits = h })
+
+  pub narrowed-back : toZ w (ofZ w (toZ w64 (ofZ w64 z))) ≡ z
+  narrowed-back = recast-back w in-word (record { sfits = h })
 
 pub mag-below : {w : Width} {z : ℤ} (ones : ℕ) → SFits w z → 2 ^ hbits w ≤ ones → mag z ≤ ones
 mag-below ones f h = le-trans (le-of-lt (f .sfits)) h

@@ -1,5 +1,6 @@
 -- The ten kinds: their list, their numbers, their forms. RULES.md: The ten kinds.
 use Prim.Native.Nat.{ℕ, zero, suc, _+_, _/_}
+use mathlib.Core.Bool.{Bool, true, false}
 use mathlib.Core.List.{List, [], _∷_}
 use lib.Ieee.{Format, binary32, binary64}
 use Rattle.float.specs.Format.{fractionOf, exponentOf}
@@ -7,6 +8,8 @@ use Rattle.value.specs.declared.Kind.{Kind}
 use Rattle.value.specs.declared.Kind.the-variants as kind
 use Rattle.value.specs.declared.Value.{Value}
 use Rattle.value.specs.declared.Value.the-variants.{U8, U16, U32, U64, I8, I16, I32, I64, F32, F64}
+use Rattle.value.specs.declared.Layout.{Layout}
+use Rattle.value.specs.declared.Layout.the-variants as layout
 use Rattle.value.specs.declared.KindFound.{KindFound}
 use Rattle.value.specs.declared.KindFound.the-variants.{Is, Nothing}
 
@@ -50,7 +53,7 @@ kindAt n = kindIn allKinds n
 -- the three forms: unsigned and signed of a number of bits, and a float format
 pub data Form : Type 0 where
   unsigned signed : ℕ → Form
-  float : Format → Form
+  floating : Format → Form
 
 abbrev pub formOf : Kind → Form
 formOf kind.U8 = unsigned 8
@@ -61,17 +64,29 @@ formOf kind.I8 = signed 8
 formOf kind.I16 = signed 16
 formOf kind.I32 = signed 32
 formOf kind.I64 = signed 64
-formOf kind.F32 = float binary32
-formOf kind.F64 = float binary64
+formOf kind.F32 = floating binary32
+formOf kind.F64 = floating binary64
+
+-- the form of an integer kind
+abbrev pub isInteger : Form → Bool
+isInteger (unsigned n) = true
+isInteger (signed n) = true
+isInteger (floating f) = false
 
 -- how many bits a kind has
-abbrev pub bitsFor : Form → ℕ
-bitsFor (unsigned n) = n
-bitsFor (signed n) = n
-bitsFor (float f) = suc (fractionOf f + exponentOf f)
+abbrev pub widthIn : Form → ℕ
+widthIn (unsigned n) = n
+widthIn (signed n) = n
+widthIn (floating f) = suc (fractionOf f + exponentOf f)
+
+-- a form as the code has it: how many bits, and of a float how many of them are the fraction
+abbrev pub layoutFor : Form → Layout
+layoutFor (unsigned n) = layout.Unsigned n
+layoutFor (signed n) = layout.Signed n
+layoutFor (floating f) = layout.Float (widthIn (floating f)) (fractionOf f)
 
 abbrev pub widthOf : Kind → ℕ
-widthOf k = bitsFor (formOf k)
+widthOf k = widthIn (formOf k)
 
 -- how many bytes a sample has
 abbrev pub bytesOf : Kind → ℕ

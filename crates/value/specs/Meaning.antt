@@ -1,12 +1,12 @@
 -- What a value holds, its bits and the number that it stands for. RULES.md: The ten kinds, Scaled numbers, Total order.
 -- Ten kinds, three forms: each definition below goes by the form, so that what is said of it is said once.
-use Prim.Native.Nat.{ℕ, suc, _+_, _-_, _*_, _%_, _^_}
+use Prim.Native.Nat.{ℕ, suc, _+_, _-_, _*_, _%_, _^_, _<_}
 use mathlib.Core.Bool.{false, true, cond}
 use lib.Dec.{ltb}
 use lib.IntN.{ℤ, pos, negsuc}
 use lib.Ieee.{Float, Format, binary32, binary64, isNan, toBits, ofBits}
 use Rattle.float.specs.Format.{fractionOf, exponentOf, infOf, nanOf}
-use Rattle.float.specs.Format as float
+use Rattle.float.specs.Format as patterns
 use Rattle.float.specs.Number.{Exact, finite, times, Number}
 use Rattle.float.specs.Number as float-number
 use Rattle.float.specs.Order.{patternOf}
@@ -34,6 +34,11 @@ contentOf (F32 x w) = real binary32 x w
 contentOf (F64 x w) = real binary64 x w
 
 -- ---- bits
+
+-- -half ≤ z < half: the range of a signed kind
+abbrev pub fitsSigned : ℕ → ℤ → Type 0
+fitsSigned half (pos n) = n < half
+fitsSigned half (negsuc n) = n < half
 
 -- z in two's complement: minus one is all ones
 abbrev pub twosOf : ℕ → ℤ → ℕ
@@ -87,7 +92,7 @@ numberOf v = float-number.numberOf (exactOf v)
 abbrev pub positionIn : Content → ℤ
 positionIn (natural k n) = pos n
 positionIn (integer k z) = z
-positionIn (real f x w) = float.positionOf (fractionOf f) (exponentOf f) (floatBits f x w)
+positionIn (real f x w) = patterns.positionOf (fractionOf f) (exponentOf f) (floatBits f x w)
 
 abbrev pub positionOf : Value → ℤ
 positionOf v = positionIn (contentOf v)

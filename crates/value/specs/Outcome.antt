@@ -1,6 +1,8 @@
 -- What a call answers, in the words of the rules: a result, or the number and the place of a refusal. RULES.md: Refusals.
 use Prim.Native.Nat.{ℕ}
 use mathlib.Core.Bool.{Bool, true, false}
+use mathlib.Core.List.{List, _++_}
+use lib.ListN.{length, drop}
 use Rattle.value.specs.declared.Refusal.{Refusal}
 
 pub data Outcome (A : Type 0) : Type 0 where
@@ -28,3 +30,8 @@ andThen (refuses number place) next = refuses number place
 abbrev pub mapped : {A B : Type 0} → (A → B) → Outcome A → Outcome B
 mapped f (gives a) = gives (f a)
 mapped f (refuses number place) = refuses number place
+
+-- lent memory after a call: what was given, laid out, and behind it what stood there; after a refusal what it was
+abbrev pub lentAfter : {A B : Type 0} → (A → List B) → Outcome A → List B → List B
+lentAfter laid (gives a) old = laid a ++ drop (length (laid a)) old
+lentAfter laid (refuses number place) old = old

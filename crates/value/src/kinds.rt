@@ -1,9 +1,10 @@
-// Kinds, and their numbers 0 to 9. RULES.md: The ten kinds.
+// Kinds, their numbers 0 to 9, and their forms. RULES.md: The ten kinds.
 ghost use mathlib.Core.Path.{_≡_};
 ghost use Prim.Native.Nat.{_+_, _≤_, _<_};
-ghost use Rattle.value.specs.Kinds.{kindOf, kindNumber, kindAt, bytesOf};
+ghost use Rattle.value.specs.Kinds.{kindOf, kindNumber, kindAt, formOf, layoutFor, widthOf, bytesOf};
 use crate::Kind;
 use crate::KindFound;
+use crate::Layout;
 use crate::Value;
 
 pub fn kind_of(v: Value) -> Kind
@@ -40,22 +41,39 @@ pub fn kind_number(k: Kind) -> u8
     }
 }
 
+pub fn layout_of(k: Kind) -> Layout
+    ensures { λ r. ⌜ r ≡ layoutFor (formOf k) ⌝ }
+{
+    match k {
+        Kind::U8 => Layout::Unsigned(8),
+        Kind::U16 => Layout::Unsigned(16),
+        Kind::U32 => Layout::Unsigned(32),
+        Kind::U64 => Layout::Unsigned(64),
+        Kind::I8 => Layout::Signed(8),
+        Kind::I16 => Layout::Signed(16),
+        Kind::I32 => Layout::Signed(32),
+        Kind::I64 => Layout::Signed(64),
+        Kind::F32 => Layout::Float(32, 23),
+        Kind::F64 => Layout::Float(64, 52),
+    }
+}
+
+// How many bits a sample of the kind has.
+pub fn width_of(k: Kind) -> usize
+    ensures { λ r. ⌜ (r ≡ widthOf k) × (8 ≤ r) × (r ≤ 64) ⌝ }
+{
+    match layout_of(k) {
+        Layout::Unsigned(width) => width as usize,
+        Layout::Signed(width) => width as usize,
+        Layout::Float(width, _) => width as usize,
+    }
+}
+
 // How many bytes a sample of the kind has.
 pub fn bytes_of(k: Kind) -> usize
     ensures { λ r. ⌜ (r ≡ bytesOf k) × (0 < r) × (r ≤ 8) ⌝ }
 {
-    match k {
-        Kind::U8 => 1,
-        Kind::U16 => 2,
-        Kind::U32 => 4,
-        Kind::U64 => 8,
-        Kind::I8 => 1,
-        Kind::I16 => 2,
-        Kind::I32 => 4,
-        Kind::I64 => 8,
-        Kind::F32 => 4,
-        Kind::F64 => 8,
-    }
+    width_of(k) / 8
 }
 
 // The kinds of a form by rising width.

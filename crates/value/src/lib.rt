@@ -7,6 +7,8 @@ pub use kinds::bytes_of;
 pub use kinds::kind_number;
 pub use kinds::kind_of;
 pub use kinds::kind_of_number;
+pub use kinds::layout_of;
+pub use kinds::width_of;
 pub use patterns::bits_f32;
 pub use patterns::bits_f64;
 pub use patterns::bits_of;
@@ -25,6 +27,13 @@ pub enum Kind {
     I64,
     F32,
     F64,
+}
+
+// A kind's form: how many bits, and of a float how many of them are the fraction.
+pub enum Layout {
+    Unsigned(u8),
+    Signed(u8),
+    Float(u8, u8),
 }
 
 // The second part of a float case is the pattern of its NaN: it is looked at only when the float is a NaN.

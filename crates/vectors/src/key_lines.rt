@@ -135,7 +135,7 @@ fn put_chosen<'a>(
     ensures { λ r. ⌜ r ≤ 65536 ⌝ }
 {
     if higher {
-        return put_bytes(output, used, key::max_by_prefix(a, b, k));
+        return put_bytes(output, used, bytewise::max_by_prefix(a, b, k));
     }
-    put_bytes(output, used, key::min_by_prefix(a, b, k))
+    put_bytes(output, used, bytewise::min_by_prefix(a, b, k))
 }

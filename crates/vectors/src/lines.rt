@@ -23,7 +23,7 @@ use crate::row_lines::row_line;
 use crate::rows::RowF32;
 use crate::rows::RowU8;
 use crate::rows::RowU16;
-use cmp::Chosen;
+use choose::Chosen;
 use cmp::Tested;
 use convert::Converted;
 use float::class_f32;
@@ -114,7 +114,7 @@ fn clamp_line(rest: &[u8]) -> Answer {
     let TwoValues::Are(lower, upper) = values_in(after(b' ', rest)) else {
         return Answer::Malformed;
     };
-    chosen(cmp::clamp(v, lower, upper))
+    chosen(choose::clamp(v, lower, upper))
 }
 
 fn convert_line(rest: &[u8]) -> Answer {
@@ -132,8 +132,8 @@ fn pair_line(word: &[u8], rest: &[u8]) -> Answer {
     match word_number(word, b"compare total min max") {
         0 => compared(cmp::compare(a, b)),
         1 => compared(cmp::total_order(a, b)),
-        2 => chosen(cmp::min(a, b)),
-        3 => chosen(cmp::max(a, b)),
+        2 => chosen(choose::min(a, b)),
+        3 => chosen(choose::max(a, b)),
         _ => test_of(word, a, b),
     }
 }

@@ -15,7 +15,7 @@ use crate::rows::fill;
 use crate::rows::is_filled;
 use crate::samples::put_samples;
 use crate::samples::samples_in;
-use cmp::Range;
+use choose::Range;
 use row::Rowed;
 use text::after;
 use text::before;

@@ -2,7 +2,7 @@
 use mathlib.Core.Path.{_≡_, sym, _∙_, ap}
 use borrow.Author.Needs.{needs}
 use Rattle.value.specs.Kinds.{kindOf, kindNumber}
-use Rattle.convert.specs.Convert.{intoOf}
+use Rattle.convert.specs.Inner.{intoOf}
 use Rattle.convert.proofs.Exactly.{own-kind, other-kind}
 use Rattle.convert.proofs.convert.Statement.{statement}
 use Rattle.convert.proofs.convert.Tie as tie

@@ -1,6 +1,6 @@
 -- What is left to lay down, laid into what stands there, is the whole.
 use mathlib.Core.Path.{refl}
-use Rattle.block.proofs.LittleEndian.{Laying, lay-step, lay-end}
+use Rattle.block.proofs.Laying.{Laying, lay-step, lay-end}
 use borrow.Author.Needs.{needs}
 use Rattle.block.proofs.bytes.store.Statement.{statement}
 use Rattle.block.proofs.bytes.store.Tie as tie

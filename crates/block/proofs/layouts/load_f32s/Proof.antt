@@ -5,9 +5,9 @@ use native.Mathlib.Omega.{arith}
 use lib.ListN.{length}
 use lib.Ieee.{binary32, ofBits}
 use Rattle.row.proofs.Written.{Written, write-step, write-end}
-use Rattle.block.specs.Steps.{numbersIn}
-use Rattle.block.proofs.Samplings.{length-numbers, number-here}
-use Rattle.block.proofs.LittleEndian.{four-here}
+use Rattle.sample.specs.Samples.{numbersIn}
+use Rattle.sample.proofs.Samplings.{length-numbers, number-here}
+use Rattle.bytewise.proofs.LittleEndian.{four-here}
 use borrow.Author.Needs.{needs}
 use Rattle.block.proofs.layouts.load_f32s.Statement.{statement}
 use Rattle.block.proofs.layouts.load_f32s.Tie as tie

@@ -4,9 +4,9 @@ use Prim.Native.Nat.{ℕ, _-_, _<_}
 use native.Mathlib.Omega.{arith}
 use lib.ListN.{length}
 use Rattle.row.proofs.Written.{Written, write-step, write-end}
-use Rattle.block.specs.Steps.{numbersIn}
-use Rattle.block.proofs.Samplings.{length-numbers, number-here}
-use Rattle.block.proofs.LittleEndian.{two-here}
+use Rattle.sample.specs.Samples.{numbersIn}
+use Rattle.sample.proofs.Samplings.{length-numbers, number-here}
+use Rattle.bytewise.proofs.LittleEndian.{two-here}
 use borrow.Author.Needs.{needs}
 use Rattle.block.proofs.layouts.load_u16s.Statement.{statement}
 use Rattle.block.proofs.layouts.load_u16s.Tie as tie

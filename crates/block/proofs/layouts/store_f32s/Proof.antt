@@ -8,10 +8,10 @@ use lib.Dec.{lit<}
 use lib.Ieee.{nan, binary32, isNan, toBits}
 use Rattle.value.specs.declared.Kind.the-variants as kind
 use Rattle.row.proofs.F32Sample.{bits-are}
-use Rattle.block.proofs.LittleEndian.{past-one, past-two, past-three, lay-four}
+use Rattle.block.specs.Inner.{plainBits}
+use Rattle.block.proofs.Laying.{past-one, past-two, past-three, lay-four}
 use Rattle.block.proofs.Samplings.{Filled, fill-none, fill-step, fill-end}
 use Rattle.block.proofs.Pairs.{none-here}
-use Rattle.block.specs.Steps.{plainBits}
 use borrow.Author.Needs.{needs}
 use Rattle.block.proofs.layouts.store_f32s.Statement.{statement}
 use Rattle.block.proofs.layouts.store_f32s.Tie as tie

@@ -6,7 +6,7 @@ use native.Mathlib.Omega.{arith}
 use lib.ListN.{length, getD}
 use Rattle.value.specs.declared.Kind.the-variants as kind
 use Rattle.block.proofs.Samplings.{Filled, fill-none, fill-step, fill-end}
-use Rattle.block.proofs.LittleEndian.{past-one, lay-two}
+use Rattle.block.proofs.Laying.{past-one, lay-two}
 use borrow.Author.Needs.{needs}
 use Rattle.block.proofs.layouts.store_u16s.Statement.{statement}
 use Rattle.block.proofs.layouts.store_u16s.Tie as tie

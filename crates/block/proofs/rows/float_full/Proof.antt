@@ -6,9 +6,11 @@ use native.Mathlib.Omega.{arith}
 use lib.ListN.{length, take, drop, length-drop}
 use lib.Seq.{sets}
 use Rattle.value.specs.declared.Kind.the-variants as kind
-use Rattle.block.specs.Samples.{bytesFor}
-use Rattle.block.specs.Steps.{numbersIn, floatedBits}
-use Rattle.block.proofs.Samplings.{length-numbers, numbers-piece, Filled, fill-none, fill-piece, fill-end}
+use Rattle.sample.specs.Samples.{numbersIn}
+use Rattle.sample.proofs.Samplings.{length-numbers, numbers-piece}
+use Rattle.block.specs.Output.{bytesFor}
+use Rattle.block.specs.Inner.{floatedBits}
+use Rattle.block.proofs.Samplings.{Filled, fill-none, fill-piece, fill-end}
 use Rattle.block.proofs.Pieces.{bytes-fit, place-of, rest-is, row-left}
 use borrow.Author.Needs.{needs}
 use Rattle.block.proofs.rows.float_full.Statement.{statement}

@@ -6,8 +6,9 @@ use native.Mathlib.Nat.{le-of-lt}
 use lib.Ieee.{Float, binary32, ofBits}
 use lib.Seq.{sets, length-take-le}
 use Rattle.value.specs.declared.Kind.the-variants as kind
-use Rattle.block.specs.Samples.{bytesFor}
-use Rattle.block.specs.Steps.{numbersIn, floatedBits}
+use Rattle.sample.specs.Samples.{numbersIn}
+use Rattle.block.specs.Output.{bytesFor}
+use Rattle.block.specs.Inner.{floatedBits}
 use Rattle.block.proofs.Pieces.{places}
 use borrow.Author.Needs.{needs}
 use Rattle.block.proofs.rows.float_rest.Statement.{statement}

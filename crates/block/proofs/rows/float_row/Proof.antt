@@ -7,10 +7,11 @@ use lib.Seq.{sets}
 use lib.Ieee.{isNan}
 use Rattle.value.specs.declared.Kind.the-variants as kind
 use Rattle.row.specs.Row.{any}
-use Rattle.row.specs.Convert.{asF32}
-use Rattle.block.specs.Samples.{bytesFor}
-use Rattle.block.specs.Steps.{numbersIn, plainBits, floatedBits}
-use Rattle.block.proofs.Samplings.{length-numbers}
+use Rattle.row.specs.Inner.{asF32}
+use Rattle.sample.specs.Samples.{numbersIn}
+use Rattle.sample.proofs.Samplings.{length-numbers}
+use Rattle.block.specs.Output.{bytesFor}
+use Rattle.block.specs.Inner.{plainBits, floatedBits}
 use Rattle.block.proofs.Rowing.{map-same, map-both}
 use Rattle.block.proofs.Pairs.{floated-row, casts-numbers}
 use borrow.Author.Needs.{needs}

@@ -4,8 +4,10 @@ use Prim.Native.Nat.{_-_, _*_, _%_}
 use native.Mathlib.Omega.{arith}
 use lib.ListN.{length, take, drop}
 use Rattle.value.specs.declared.Kind.the-variants as kind
-use Rattle.block.specs.Steps.{numbersIn, floatedBits}
-use Rattle.block.proofs.Samplings.{length-numbers, numbers-take, numbers-piece, fill-two}
+use Rattle.sample.specs.Samples.{numbersIn}
+use Rattle.sample.proofs.Samplings.{length-numbers, numbers-take, numbers-piece}
+use Rattle.block.specs.Inner.{floatedBits}
+use Rattle.block.proofs.Samplings.{fill-two}
 use Rattle.block.proofs.Pieces.{place-of, rest-is}
 use borrow.Author.Needs.{needs}
 use Rattle.block.proofs.rows.float_rows.Statement.{statement}

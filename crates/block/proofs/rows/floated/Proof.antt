@@ -4,7 +4,8 @@ use mathlib.Core.Path.{refl}
 use native.Mathlib.Nat.{mul-comm}
 use native.Mathlib.Omega.{arith}
 use Rattle.value.specs.declared.Kind.the-variants as kind
-use Rattle.block.proofs.Samplings.{room-inside, count-inside}
+use Rattle.sample.proofs.Samplings.{count-inside}
+use Rattle.block.proofs.Samplings.{room-inside}
 use Rattle.block.proofs.Pairs.{floated-block}
 use Rattle.block.proofs.rows.floated.Statement.{statement}
 use Rattle.block.proofs.rows.floated.Tie as tie

@@ -5,7 +5,7 @@ use lib.ListN.{length}
 use Rattle.value.specs.declared.Kind.the-variants as kind
 use Rattle.value.specs.Kinds.{bytesOf}
 use lib.Ieee.{Float, binary32, ofBits}
-use Rattle.block.specs.Steps.{rowPlaces}
+use Rattle.block.specs.Migrate.{rowPlaces}
 use Rattle.block.proofs.Pieces.{places}
 use borrow.Author.Needs.{needs}
 use lib.Seq.{length-take-le}

@@ -4,8 +4,8 @@ use Prim.Native.Nat.{ℕ}
 use lib.ListN.{length}
 use lib.Seq.{length-take-le}
 use Rattle.row.specs.Row.{rowedOutcome}
-use Rattle.block.specs.Steps.{numbersIn}
-use Rattle.block.proofs.Samplings.{length-numbers}
+use Rattle.sample.specs.Samples.{numbersIn}
+use Rattle.sample.proofs.Samplings.{length-numbers}
 use Rattle.block.proofs.Rowing.{map-same}
 use Rattle.block.proofs.Pairs.{narrowed-block}
 use borrow.Author.Needs.{needs}

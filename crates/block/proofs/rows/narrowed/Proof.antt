@@ -3,7 +3,7 @@ use mathlib.Core.Path.{sym, _∙_}
 use Prim.Native.Nat.{ℕ}
 use native.Mathlib.Nat.{div-one}
 use lib.ListN.{length}
-use Rattle.block.specs.Steps.{rowPlaces}
+use Rattle.block.specs.Migrate.{rowPlaces}
 use Rattle.block.proofs.Pieces.{places}
 use borrow.Author.Needs.{needs}
 use lib.Seq.{length-take-le}

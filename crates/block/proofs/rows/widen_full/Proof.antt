@@ -6,7 +6,7 @@ use native.Mathlib.Omega.{arith}
 use lib.ListN.{length, take, drop}
 use lib.Seq.{sets}
 use Rattle.value.specs.declared.Kind.the-variants as kind
-use Rattle.block.specs.Samples.{bytesFor}
+use Rattle.block.specs.Output.{bytesFor}
 use Rattle.block.proofs.Samplings.{Filled, fill-none, fill-piece, fill-end}
 use Rattle.block.proofs.Pieces.{piece-is, piece-length, bytes-fit, place-of, row-left}
 use borrow.Author.Needs.{needs}

@@ -4,7 +4,7 @@ use Prim.Native.Nat.{ℕ}
 use mathlib.Core.List.{List}
 use lib.Seq.{sets}
 use Rattle.value.specs.declared.Kind.the-variants as kind
-use Rattle.block.specs.Samples.{bytesFor}
+use Rattle.block.specs.Output.{bytesFor}
 use Rattle.block.proofs.Rowing.{map-same}
 use Rattle.block.proofs.Pairs.{widened-row}
 use borrow.Author.Needs.{needs}

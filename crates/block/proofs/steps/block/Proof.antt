@@ -1,6 +1,5 @@
 -- Without room it is refused; with room its samples decide.
 use mathlib.Core.Path.{_∙_, ap}
-use Prim.Native.Nat.{ℕ, _/_}
 use lib.ListN.{length}
 use Rattle.row.specs.Row.{rowedOutcome}
 use Rattle.block.proofs.Blocks.{block-short, shorter, enough}
@@ -14,7 +13,7 @@ returns c =
     let second = then .before in
     let first = second .before in
     let a = first .before .before .before .args in
-    let r = block-short (a .from) (a .to) (a .src .now) (a .dst .now) (shorter (length (a .dst .now)) (length (a .src .now)) (first .bytes-of .ensures .0) (second .bytes-of2 .ensures .0) (then .if1 .taken)) in
+    let r = block-short (a .from) (a .to) (a .src .now) (a .dst .now) (shorter (length (a .dst .now)) (first .count .ensures) (second .bytes-of .ensures .0) (then .if1 .taken)) in
     (ap rowedOutcome (c .refused .ensures) ∙ r .0, r .1)
 
 -- what the samples ask for: their number, and room for them
@@ -24,14 +23,13 @@ by-pair-requires c κs =
     let second = passed .before in
     let first = second .before in
     let a = first .before .before .before .args in
-    (ap (λ (w : ℕ). length (a .src .now) / w) (first .bytes-of .ensures .0), enough (length (a .dst .now)) (length (a .src .now) / first .bytes-of .result) (second .bytes-of2 .ensures .0) (passed .if1 .left))
+    (first .count .ensures, enough (length (a .dst .now)) (first .count .result) (second .bytes-of .ensures .0) (passed .if1 .left))
 
 pub block-spec : {M : Type 1} → statement M
 block-spec =
     tie.close
     (tie.spec
     (λ c κs. search needs)
-    (λ c. search needs)
     (λ c κs. search needs)
     (λ c. search needs)
     (λ c κs. search needs)

@@ -15,9 +15,10 @@ returns c =
     let counted = then .before in
     let asked = counted .before in
     let a = asked .before .before .before .args in
-    let n = step-count (a .from) (a .to) (a .s .samples) (rowedOutcome (a .s .answer)) (a .src .now) (a .dst .now) (asked .bytes-of .ensures .0) (counted .wrapping-add-usize .ensures) in
+    let n = step-count (a .from) (a .to) (a .s .samples) (rowedOutcome (a .s .answer)) (a .src .now) (a .dst .now)
+    (asked .bytes-of .ensures .0) (counted .wrapping-add-usize .ensures) in
     let r = step-left (a .from) (a .to) (a .s .samples) (rowedOutcome (a .s .answer)) (a .src .now) (a .dst .now) (λ q. then .if1 .taken (ap (λ (w : ℕ). length (a .src .now) % w) (asked .bytes-of .ensures .0) ∙ q)) in
-    (n, (ap rowedOutcome (c .refused .ensures) ∙ ap (λ (p : ℕ). refuses 9 p) n ∙ r .0, r .1))
+    (n, ap rowedOutcome (c .refused .ensures) ∙ ap (λ (p : ℕ). refuses 9 p) n ∙ r .0, r .1)
 
 returns-2 : tie.Need-returns-2
 returns-2 c =
@@ -27,10 +28,12 @@ returns-2 c =
     let counted = passed .before in
     let asked = counted .before in
     let a = asked .before .before .before .args in
-    let none = sym (ap (λ (w : ℕ). length (a .src .now) % w) (asked .bytes-of .ensures .0)) ∙ passed .if1 .left in (
-      step-count (a .from) (a .to) (a .s .samples) (rowedOutcome (a .s .answer)) (a .src .now) (a .dst .now) (asked .bytes-of .ensures .0) (counted .wrapping-add-usize .ensures),
-      step-block (a .from) (a .to) (a .s .samples) (rowedOutcome (a .s .answer)) (a .src .now) (a .dst .now) none (ap rowedOutcome (told .enum-told .given .1)) (blocked .block .ensures) (c .placed .ensures),
-    )
+    let none = sym (ap (λ (w : ℕ). length (a .src .now) % w) (asked .bytes-of .ensures .0)) ∙ passed .if1 .left in
+    let n = step-count (a .from) (a .to) (a .s .samples) (rowedOutcome (a .s .answer)) (a .src .now) (a .dst .now)
+    (asked .bytes-of .ensures .0) (counted .wrapping-add-usize .ensures) in
+    let r = step-block (a .from) (a .to) (a .s .samples) (rowedOutcome (a .s .answer)) (a .src .now) (a .dst .now)
+    none (ap rowedOutcome (told .enum-told .given .1)) (blocked .block .ensures) (c .placed .ensures) in
+    (n, r .0, r .1)
 
 returns-3 : tie.Need-returns-3
 returns-3 c =
@@ -38,10 +41,12 @@ returns-3 c =
     let counted = passed .before in
     let asked = counted .before in
     let a = asked .before .before .before .args in
-    let none = sym (ap (λ (w : ℕ). length (a .src .now) % w) (asked .bytes-of .ensures .0)) ∙ passed .if1 .left in (
-      step-count (a .from) (a .to) (a .s .samples) (rowedOutcome (a .s .answer)) (a .src .now) (a .dst .now) (asked .bytes-of .ensures .0) (counted .wrapping-add-usize .ensures),
-      step-stays (a .from) (a .to) (a .s .samples) (rowedOutcome (a .s .answer)) (a .src .now) (a .dst .now) none (ap rowedOutcome (c .enum-told2 .given .1)),
-    )
+    let none = sym (ap (λ (w : ℕ). length (a .src .now) % w) (asked .bytes-of .ensures .0)) ∙ passed .if1 .left in
+    let n = step-count (a .from) (a .to) (a .s .samples) (rowedOutcome (a .s .answer)) (a .src .now) (a .dst .now)
+    (asked .bytes-of .ensures .0) (counted .wrapping-add-usize .ensures) in
+    let r = step-stays (a .from) (a .to) (a .s .samples) (rowedOutcome (a .s .answer)) (a .src .now) (a .dst .now)
+    none (ap rowedOutcome (c .enum-told2 .given .1)) in
+    (n, r .0, r .1)
 
 pub convert-block-spec : {M : Type 1} → statement M
 convert-block-spec =

@@ -1,6 +1,5 @@
 -- Where both cases are known their kinds are one and the callee's order is that of the numbers; every `_` arm has other kinds than a's.
 use mathlib.Core.Path.{refl, _∙_}
-use mathlib.Core.List.{[], _∷_}
 use borrow.Author.Needs.{needs}
 use lib.Dec.{lit≤}
 use lib.IntN.{pos}
@@ -33,25 +32,25 @@ returns : tie.Need-returns
 returns c = compare-integers (c .before .before .before .before .before .a .given .1) (c .before .before .b .given .1) refl (pos _) (pos _) refl refl (c .order-u64 .ensures)
 
 returns-2 : tie.Need-returns-2
-returns-2 c = c .kinds-differ .ensures ∙ compare-refused 1 (2 ∷ 3 ∷ 4 ∷ 5 ∷ 6 ∷ 7 ∷ 8 ∷ 9 ∷ []) _ (c .before .before .before .a .given .1) (c .before .match2 .keys2) tt
+returns-2 c = c .kinds-differ .ensures ∙ compare-refused _ (c .before .before .before .a .given .1) (c .before .match2 .keys2)
 
 returns-3 : tie.Need-returns-3
 returns-3 c = compare-integers (c .before .before .before .before .before .a2 .given .1) (c .before .before .b2 .given .1) refl (pos _) (pos _) refl refl (c .order-u642 .ensures)
 
 returns-4 : tie.Need-returns-4
-returns-4 c = c .kinds-differ2 .ensures ∙ compare-refused 0 (2 ∷ 3 ∷ 4 ∷ 5 ∷ 6 ∷ 7 ∷ 8 ∷ 9 ∷ []) _ (c .before .before .before .a2 .given .1) (c .before .match3 .keys2) tt
+returns-4 c = c .kinds-differ2 .ensures ∙ compare-refused _ (c .before .before .before .a2 .given .1) (c .before .match3 .keys2)
 
 returns-5 : tie.Need-returns-5
 returns-5 c = compare-integers (c .before .before .before .before .before .a3 .given .1) (c .before .before .b3 .given .1) refl (pos _) (pos _) refl refl (c .order-u643 .ensures)
 
 returns-6 : tie.Need-returns-6
-returns-6 c = c .kinds-differ3 .ensures ∙ compare-refused 0 (1 ∷ 3 ∷ 4 ∷ 5 ∷ 6 ∷ 7 ∷ 8 ∷ 9 ∷ []) _ (c .before .before .before .a3 .given .1) (c .before .match4 .keys2) tt
+returns-6 c = c .kinds-differ3 .ensures ∙ compare-refused _ (c .before .before .before .a3 .given .1) (c .before .match4 .keys2)
 
 returns-7 : tie.Need-returns-7
 returns-7 c = compare-integers (c .before .before .before .before .before .a4 .given .1) (c .before .before .b4 .given .1) refl (pos _) (pos _) refl refl (c .order-u644 .ensures)
 
 returns-8 : tie.Need-returns-8
-returns-8 c = c .kinds-differ4 .ensures ∙ compare-refused 0 (1 ∷ 2 ∷ 4 ∷ 5 ∷ 6 ∷ 7 ∷ 8 ∷ 9 ∷ []) _ (c .before .before .before .a4 .given .1) (c .before .match5 .keys2) tt
+returns-8 c = c .kinds-differ4 .ensures ∙ compare-refused _ (c .before .before .before .a4 .given .1) (c .before .match5 .keys2)
 
 returns-9 : tie.Need-returns-9
 returns-9 c =
@@ -60,7 +59,7 @@ returns-9 c =
     compare-integers (x .1) (y .1) refl (x .0 .0) (y .0 .0) refl refl (narrow-order {v = w8} (x .0 .0) (y .0 .0) (lit≤ tt) (search needs) (search needs) (c .order-i64 .ensures))
 
 returns-10 : tie.Need-returns-10
-returns-10 c = c .kinds-differ5 .ensures ∙ compare-refused 0 (1 ∷ 2 ∷ 3 ∷ 5 ∷ 6 ∷ 7 ∷ 8 ∷ 9 ∷ []) _ (c .before .before .before .a5 .given .1) (c .before .match6 .keys2) tt
+returns-10 c = c .kinds-differ5 .ensures ∙ compare-refused _ (c .before .before .before .a5 .given .1) (c .before .match6 .keys2)
 
 returns-11 : tie.Need-returns-11
 returns-11 c =
@@ -69,7 +68,7 @@ returns-11 c =
     compare-integers (x .1) (y .1) refl (x .0 .0) (y .0 .0) refl refl (narrow-order {v = w16} (x .0 .0) (y .0 .0) (lit≤ tt) (search needs) (search needs) (c .order-i642 .ensures))
 
 returns-12 : tie.Need-returns-12
-returns-12 c = c .kinds-differ6 .ensures ∙ compare-refused 0 (1 ∷ 2 ∷ 3 ∷ 4 ∷ 6 ∷ 7 ∷ 8 ∷ 9 ∷ []) _ (c .before .before .before .a6 .given .1) (c .before .match7 .keys2) tt
+returns-12 c = c .kinds-differ6 .ensures ∙ compare-refused _ (c .before .before .before .a6 .given .1) (c .before .match7 .keys2)
 
 returns-13 : tie.Need-returns-13
 returns-13 c =
@@ -78,7 +77,7 @@ returns-13 c =
     compare-integers (x .1) (y .1) refl (x .0 .0) (y .0 .0) refl refl (narrow-order {v = w32} (x .0 .0) (y .0 .0) (lit≤ tt) (search needs) (search needs) (c .order-i643 .ensures))
 
 returns-14 : tie.Need-returns-14
-returns-14 c = c .kinds-differ7 .ensures ∙ compare-refused 0 (1 ∷ 2 ∷ 3 ∷ 4 ∷ 5 ∷ 7 ∷ 8 ∷ 9 ∷ []) _ (c .before .before .before .a7 .given .1) (c .before .match8 .keys2) tt
+returns-14 c = c .kinds-differ7 .ensures ∙ compare-refused _ (c .before .before .before .a7 .given .1) (c .before .match8 .keys2)
 
 returns-15 : tie.Need-returns-15
 returns-15 c =
@@ -87,23 +86,23 @@ returns-15 c =
     compare-integers (x .1) (y .1) refl (x .0 .0) (y .0 .0) refl refl (wide-order (x .0 .0) (y .0 .0) (search needs) (search needs) (c .order-i644 .ensures))
 
 returns-16 : tie.Need-returns-16
-returns-16 c = c .kinds-differ8 .ensures ∙ compare-refused 0 (1 ∷ 2 ∷ 3 ∷ 4 ∷ 5 ∷ 6 ∷ 8 ∷ 9 ∷ []) _ (c .before .before .before .a8 .given .1) (c .before .match9 .keys2) tt
+returns-16 c = c .kinds-differ8 .ensures ∙ compare-refused _ (c .before .before .before .a8 .given .1) (c .before .match9 .keys2)
 
 returns-17 : tie.Need-returns-17
 returns-17 c =
     compare-floats (c .before .before .before .before .before .before .before .a9 .given .1) (c .before .before .before .before .b9 .given .1) refl binary32 _ _ refl refl
-    (c .compare-f32 .ensures ∙ cc (c .before .bits-f322 .ensures, c .before .before .bits-f32 .ensures))
+    (c .compare-f32 .ensures) (c .before .before .bits-f32 .ensures) (c .before .bits-f322 .ensures)
 
 returns-18 : tie.Need-returns-18
-returns-18 c = c .kinds-differ9 .ensures ∙ compare-refused 0 (1 ∷ 2 ∷ 3 ∷ 4 ∷ 5 ∷ 6 ∷ 7 ∷ 9 ∷ []) _ (c .before .before .before .a9 .given .1) (c .before .match10 .keys2) tt
+returns-18 c = c .kinds-differ9 .ensures ∙ compare-refused _ (c .before .before .before .a9 .given .1) (c .before .match10 .keys2)
 
 returns-19 : tie.Need-returns-19
 returns-19 c =
     compare-floats (c .before .before .before .before .before .before .before .a10 .given .1) (c .before .before .before .before .b10 .given .1) refl binary64 _ _ refl refl
-    (c .compare-f64 .ensures ∙ cc (c .before .bits-f642 .ensures, c .before .before .bits-f64 .ensures))
+    (c .compare-f64 .ensures) (c .before .before .bits-f64 .ensures) (c .before .bits-f642 .ensures)
 
 returns-20 : tie.Need-returns-20
-returns-20 c = c .kinds-differ10 .ensures ∙ compare-refused 0 (1 ∷ 2 ∷ 3 ∷ 4 ∷ 5 ∷ 6 ∷ 7 ∷ 8 ∷ []) _ (c .before .before .before .a10 .given .1) (c .before .match11 .keys2) tt
+returns-20 c = c .kinds-differ10 .ensures ∙ compare-refused _ (c .before .before .before .a10 .given .1) (c .before .match11 .keys2)
 
 pub compare-spec : {M : Type 1} → statement M
 compare-spec =

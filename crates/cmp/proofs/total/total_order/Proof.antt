@@ -1,12 +1,12 @@
 -- Two floats of one kind lie as their positions do; two integers as they compare; every other arm has two kinds.
-use mathlib.Core.Path.{_≡_, refl, _∙_}
-use mathlib.Core.List.{[], _∷_}
+use mathlib.Core.Path.{_≡_, refl, _∙_, ap}
 use borrow.Author.Needs.{needs}
 use lib.Dec.{lit≤}
 use mir.Syntax.{w32}
+use Rattle.float.specs.Format.{positionOf}
 use Rattle.float.specs.Order.{orderZ}
 use Rattle.cmp.proofs.Numbers.{wide-order, narrow-order, narrow-fits}
-use Rattle.cmp.proofs.Answers.{total-refused, total-given, total-integers}
+use Rattle.cmp.proofs.Answers.{total-refused, total-given, total-integers, order-at}
 use Rattle.cmp.proofs.total.total_order.Statement.{statement}
 use Rattle.cmp.proofs.total.total_order.Tie as tie
 
@@ -22,10 +22,10 @@ returns c =
     let first = second .before .before in
     let o : c .order-i64 .result ≡ orderZ (first .position-f32 .result) (second .position-f322 .result) = narrow-order {v = w32} (first .position-f32 .result) (second .position-f322 .result) (lit≤ tt) (search needs) (search needs) (c .order-i64 .ensures) in
     total-given (first .before .before .before .before .before .before .a .given .1) (first .before .before .before .b .given .1) refl
-    (o ∙ cc (first .position-f32 .ensures, second .position-f322 .ensures, first .before .bits-f32 .ensures, second .before .bits-f322 .ensures))
+    (order-at o (first .position-f32 .ensures ∙ ap (positionOf 23 8) (first .before .bits-f32 .ensures)) (second .position-f322 .ensures ∙ ap (positionOf 23 8) (second .before .bits-f322 .ensures)))
 
 returns-2 : tie.Need-returns-2
-returns-2 c = c .kinds-differ .ensures ∙ total-refused 0 (1 ∷ 2 ∷ 3 ∷ 4 ∷ 5 ∷ 6 ∷ 7 ∷ 9 ∷ []) _ (c .before .before .before .a .given .1) (c .before .match2 .keys2) tt
+returns-2 c = c .kinds-differ .ensures ∙ total-refused _ (c .before .before .before .a .given .1) (c .before .match2 .keys2)
 
 returns-3 : tie.Need-returns-3
 returns-3 c =
@@ -33,13 +33,13 @@ returns-3 c =
     let first = second .before .before in
     let o : c .order-i642 .result ≡ orderZ (first .position-f64 .result) (second .position-f642 .result) = wide-order (first .position-f64 .result) (second .position-f642 .result) (search needs) (search needs) (c .order-i642 .ensures) in
     total-given (first .before .before .before .before .before .before .a2 .given .1) (first .before .before .before .b2 .given .1) refl
-    (o ∙ cc (first .position-f64 .ensures, second .position-f642 .ensures, first .before .bits-f64 .ensures, second .before .bits-f642 .ensures))
+    (order-at o (first .position-f64 .ensures ∙ ap (positionOf 52 11) (first .before .bits-f64 .ensures)) (second .position-f642 .ensures ∙ ap (positionOf 52 11) (second .before .bits-f642 .ensures)))
 
 returns-4 : tie.Need-returns-4
-returns-4 c = c .kinds-differ2 .ensures ∙ total-refused 0 (1 ∷ 2 ∷ 3 ∷ 4 ∷ 5 ∷ 6 ∷ 7 ∷ 8 ∷ []) _ (c .before .before .before .a2 .given .1) (c .before .match3 .keys2) tt
+returns-4 c = c .kinds-differ2 .ensures ∙ total-refused _ (c .before .before .before .a2 .given .1) (c .before .match3 .keys2)
 
 returns-5 : tie.Need-returns-5
-returns-5 c = c .compare .ensures ∙ total-integers 0 (1 ∷ 2 ∷ 3 ∷ 4 ∷ 5 ∷ 6 ∷ 7 ∷ []) _ _ (c .before .match .keys3) tt
+returns-5 c = c .compare .ensures ∙ total-integers _ _ (c .before .match .keys3)
 
 pub total-order-spec : {M : Type 1} → statement M
 total-order-spec =

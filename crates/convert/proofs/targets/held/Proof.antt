@@ -105,7 +105,8 @@ returns-6 c =
     let a = start j .args in
     let f = field divided in
     let m : j .if2 .k * 2 ^ a .p % 2 ^ 64 ≡ j .if2 .k * 2 ^ a .p = mod-eq-of-lt (omega arith) in
-    ap (λ (n : ℕ). gives (a .s, n)) (cc (m, divided .over .ensures .0))
+    ap (λ (n : ℕ). gives (a .s, n + divided .over .result .quotient)) m
+    ∙ ap (λ (n : ℕ). gives (a .s, j .if2 .k * 2 ^ a .p + n)) (divided .over .ensures .0)
     ∙ held-is (a .p) (a .c) (S j) (j .if2 .k) (k-is j) (a .last) (a .s) (near divided) (nothing-left divided (c .before .if4 .left))
 
 pub held-spec : {M : Type 1} → statement M

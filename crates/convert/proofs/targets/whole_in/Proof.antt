@@ -2,7 +2,7 @@
 use mathlib.Core.Path.{sym, _∙_, ap}
 use borrow.Author.Needs.{needs}
 use Rattle.convert.specs.declared.Parts.{Parts}
-use Rattle.convert.specs.Steps.{meaning, wholeIn}
+use Rattle.convert.specs.Inner.{meaning, wholeIn}
 use Rattle.convert.proofs.targets.whole_in.Statement.{statement}
 use Rattle.convert.proofs.targets.whole_in.Tie as tie
 

@@ -54,7 +54,7 @@ bits-in-requires : tie.Need-bits-in-requires Inv-loop μ-loop
 bits-in-requires c κs =
     let b = c .before .before .before .before .before in
     let start = b .before .before .before .before .before .before .before in
-    number-room (getD (start .args .t1 .places) (b .loop .at) (record { kind = U8 }) .kind) (c .before .layout-of .ensures) (rw (c .before .before .bytes-of .ensures .0) at (c .read-number .ensures .1))
+    number-room (getD (start .args .t1 .places) (b .loop .at) (record { kind = U8 }) .kind) (c .before .weights-of .ensures) (rw (c .before .before .bytes-of .ensures .0) at (c .read-number .ensures .1))
 
 returns-3 : tie.Need-returns-3 Inv-loop μ-loop
 returns-3 c =
@@ -64,7 +64,7 @@ returns-3 c =
     let b = bytes .before .before .before in
     let start = b .before .before .before .before .before .before .before in
     c .refused3 .ensures ∙ read-stop (start .args .t1) (b .loop .inv .5) (twelve start) (start .args .key .now) (b .loop .made) (b .loop .from) (b .loop .at) (b .loop .inv)
-    (record { kind = U8 }) (bytes .before .before .loop-test .taken) (bytes .bytes-of .ensures) (bits .before .read-number .ensures .0) (bits .before .before .layout-of .ensures) (bits .bits-in .ensures) (tested .foreign-in .ensures) (c .before .if3 .taken)
+    (record { kind = U8 }) (bytes .before .before .loop-test .taken) (bytes .bytes-of .ensures) (bits .before .read-number .ensures .0) (bits .before .before .weights-of .ensures) (bits .bits-in .ensures) (tested .foreign-in .ensures) (c .before .if3 .taken)
 
 loop-again : tie.Need-loop-again Inv-loop μ-loop
 loop-again c =
@@ -74,7 +74,7 @@ loop-again c =
     let b = bytes .before .before .before in
     let start = b .before .before .before .before .before .before .before in
     read-step (start .args .t1) (b .loop .inv .5) (twelve start) (start .args .key .now) (b .loop .made) (b .loop .from) (b .loop .at) (b .loop .inv)
-    (record { kind = U8 }) (bytes .before .before .loop-test .taken) (bytes .bytes-of .ensures) (bits .before .read-number .ensures .0) (bits .before .before .layout-of .ensures) (bits .bits-in .ensures) (tested .foreign-in .ensures) (c .before .if3 .left) (c .value-of .ensures)
+    (record { kind = U8 }) (bytes .before .before .loop-test .taken) (bytes .bytes-of .ensures) (bits .before .read-number .ensures .0) (bits .before .before .weights-of .ensures) (bits .bits-in .ensures) (tested .foreign-in .ensures) (c .before .if3 .left) (c .value-of .ensures)
 
 returns-4 : tie.Need-returns-4 Inv-loop μ-loop
 returns-4 c =

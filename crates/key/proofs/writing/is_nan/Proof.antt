@@ -7,8 +7,10 @@ use Rattle.key.proofs.writing.is_nan.Tie as tie
 
 returns : tie.Need-returns
 returns c =
-    let layout = c .before .before in
-    c .nan-in .ensures ∙ value-none (layout .before .before .args .v) (layout .before .kind-of .ensures) (c .before .bits-of .ensures) (layout .layout-of .ensures)
+    let weighed = c .before .before in
+    let kind = weighed .before in
+    c .nan-in .ensures
+    ∙ value-none (kind .before .args .v) (kind .kind-of .ensures) (c .before .bits-of .ensures) (weighed .weights-of .ensures)
 
 pub is-nan-spec : {M : Type 1} → statement M
 is-nan-spec =

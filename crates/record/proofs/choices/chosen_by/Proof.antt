@@ -5,9 +5,9 @@ use mathlib.Core.Bool.{not, _||_}
 use borrow.Author.Needs.{needs}
 use Rattle.float.specs.Order.{isGreater, isUnordered}
 use Rattle.cmp.proofs.OrderKeys.{order-keys}
-use Rattle.cmp.proofs.Choice.{chosen-unordered, chosen-greater, chosen-other}
+use Rattle.cmp.proofs.ByOrder.{chosen-unordered, chosen-greater, chosen-other}
 use Rattle.record.specs.Record.{recordedOf}
-use Rattle.record.specs.Decide.{chosenFrom}
+use Rattle.record.specs.Inner.{chosenFrom}
 use Rattle.record.proofs.Deciding.{then-decision, then-refusal}
 use Rattle.record.proofs.choices.chosen_by.Statement.{statement}
 use Rattle.record.proofs.choices.chosen_by.Tie as tie

@@ -9,7 +9,7 @@ use borrow.Author.Tests.{not-true}
 use borrow.Fn.Kinds.{In}
 use borrow.Fn.PlainCycle.{Measures, is, falls, and}
 use Rattle.float.specs.Order.{isEqual}
-use Rattle.cmp.specs.Choose.{valueOrder}
+use Rattle.cmp.specs.Compare.{valueOrder}
 use Rattle.record.specs.Record.{valueAt}
 use Rattle.cmp.proofs.OrderKeys.{order-keys}
 use Rattle.record.proofs.Steps.{kinds-here, shape-behind, decided-equal, decided-behind, decided-here}

@@ -6,7 +6,7 @@ use native.Mathlib.Omega.{arith}
 use lib.ListN.{take}
 use borrow.Author.Needs.{needs}
 use Rattle.record.specs.Record.{fieldsOf, shapesDiffer}
-use Rattle.record.specs.Decide.{decisionFrom}
+use Rattle.record.specs.Inner.{decisionFrom}
 use Rattle.record.proofs.Deciding.{decide-bad, good-counts, decide-differ, decide-given}
 use Rattle.record.proofs.OneShape.{one-count}
 use Rattle.record.proofs.comparisons.decide.Statement.{statement}

@@ -2,7 +2,7 @@
 use Prim.Native.Nat.{_-_}
 use lib.ListN.{length}
 use lib.Ieee.{nan}
-use Rattle.row.specs.Clamp.{isNotSelf}
+use Rattle.row.specs.Inner.{isNotSelf}
 use Rattle.row.proofs.Scan.{Reached, reach-step, reach-stop, reach-end}
 use borrow.Author.Needs.{needs}
 use Rattle.row.proofs.clamping.first_nan_from.Statement.{statement}

@@ -6,7 +6,7 @@ use native.Mathlib.Omega.{arith}
 use lib.ListN.{length, getD, take}
 use lib.Ieee.{nan}
 use Rattle.row.specs.Row.{any}
-use Rattle.row.specs.Clamp.{isNotSelf}
+use Rattle.row.specs.Inner.{isNotSelf}
 use Rattle.row.proofs.Scan.{none-yet, any-step, any-end}
 use borrow.Author.Needs.{needs}
 use Rattle.row.proofs.clamping.has_nan.Statement.{statement}

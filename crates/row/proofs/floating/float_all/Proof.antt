@@ -1,7 +1,7 @@
 -- Each turn writes one more sample.
 use mathlib.Core.Path.{refl}
 use Prim.Native.Nat.{_-_}
-use Rattle.row.specs.Convert.{asF32}
+use Rattle.row.specs.Inner.{asF32}
 use lib.ListN.{length}
 use Rattle.row.proofs.Written.{Written, write-step, write-end}
 use borrow.Author.Needs.{needs}

@@ -1,6 +1,7 @@
 -- Every u16 is an f32.
 use Prim.Native.Nat.{_^_, _<_}
-use Rattle.row.specs.Convert.{u16ToF32, asF32}
+use Rattle.row.specs.Convert.{u16ToF32}
+use Rattle.row.specs.Inner.{asF32}
 use Rattle.row.proofs.ConvertRow.{lengths-differ, always-done}
 use Rattle.row.proofs.IntoF32.{u16-float}
 use borrow.Author.Needs.{needs}

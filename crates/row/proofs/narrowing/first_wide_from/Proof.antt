@@ -2,7 +2,7 @@
 use Prim.Native.Nat.{_-_}
 use borrow.Author.Tests.{lt-ltb, le-ltb}
 use lib.ListN.{length}
-use Rattle.row.specs.Convert.{isWide}
+use Rattle.row.specs.Inner.{isWide}
 use Rattle.row.proofs.Scan.{Reached, reach-step, reach-stop, reach-end}
 use borrow.Author.Needs.{needs}
 use Rattle.row.proofs.narrowing.first_wide_from.Statement.{statement}

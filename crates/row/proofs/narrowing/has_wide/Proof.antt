@@ -5,7 +5,7 @@ use Prim.Native.Nat.{_-_, _≤_}
 use native.Mathlib.Omega.{arith}
 use lib.ListN.{length, getD, take}
 use Rattle.row.specs.Row.{any}
-use Rattle.row.specs.Convert.{isWide}
+use Rattle.row.specs.Inner.{isWide}
 use Rattle.row.proofs.Scan.{none-yet, any-step, any-end}
 use borrow.Author.Needs.{needs}
 use Rattle.row.proofs.narrowing.has_wide.Statement.{statement}

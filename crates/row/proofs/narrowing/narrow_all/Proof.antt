@@ -3,7 +3,7 @@ use mathlib.Core.Path.{refl}
 use Prim.Native.Nat.{ℕ, _-_, _≤_}
 use borrow.Author.Tests.{ltb-false}
 use native.Mathlib.Omega.{arith}
-use Rattle.row.specs.Convert.{isWide}
+use Rattle.row.specs.Inner.{isWide}
 use Rattle.row.proofs.Scan.{first-none}
 use lib.ListN.{length, getD}
 use Rattle.row.proofs.Written.{Written, write-step, write-end}

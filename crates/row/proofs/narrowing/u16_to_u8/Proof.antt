@@ -1,5 +1,6 @@
 -- A sample above 255 is 4, and any other is its own number.
-use Rattle.row.specs.Convert.{u16ToU8, isWide}
+use Rattle.row.specs.Convert.{u16ToU8}
+use Rattle.row.specs.Inner.{isWide}
 use Rattle.row.proofs.Scan.{first-all}
 use Rattle.row.proofs.ConvertRow.{lengths-differ}
 use Rattle.row.proofs.IntoUnsigned.{narrow-refused, narrow-done}

@@ -1,6 +1,7 @@
 -- A misfit is refused with its own number, and a row without one is cast.
 use lib.Ieee.{nan}
-use Rattle.row.specs.Convert.{f32ToU16, isMisfit}
+use Rattle.row.specs.Convert.{f32ToU16}
+use Rattle.row.specs.Inner.{isMisfit}
 use Rattle.row.proofs.Scan.{first-hit, first-all}
 use Rattle.row.proofs.ConvertRow.{lengths-differ}
 use Rattle.row.proofs.IntoU16.{whole-row-refused, whole-row-done}

@@ -5,7 +5,7 @@ use Prim.Native.Nat.{ℕ, _+_, _-_, _≤_}
 use native.Mathlib.Omega.{arith}
 use lib.ListN.{length, take, drop}
 use Rattle.row.specs.Row.{first, any}
-use Rattle.row.specs.Convert.{isMisfit}
+use Rattle.row.specs.Inner.{isMisfit}
 use Rattle.row.proofs.Scan.{reach-block}
 use borrow.Author.Needs.{needs}
 use Rattle.row.proofs.wholes.first_misfit.Statement.{statement}

@@ -3,7 +3,7 @@ use mathlib.Core.Path.{sym, _∙_}
 use Prim.Native.Nat.{_-_}
 use lib.ListN.{length}
 use lib.Ieee.{nan}
-use Rattle.row.specs.Convert.{isMisfit}
+use Rattle.row.specs.Inner.{isMisfit}
 use Rattle.row.proofs.Scan.{Reached, reach-step, reach-stop, reach-end}
 use borrow.Author.Needs.{needs}
 use Rattle.row.proofs.wholes.first_misfit_from.Statement.{statement}

@@ -5,7 +5,7 @@ use native.Mathlib.Omega.{arith}
 use lib.ListN.{length, take}
 use lib.Ieee.{nan}
 use Rattle.row.specs.Row.{any}
-use Rattle.row.specs.Convert.{isMisfit}
+use Rattle.row.specs.Inner.{isMisfit}
 use Rattle.row.proofs.Scan.{none-yet, any-step, any-end}
 use borrow.Author.Needs.{needs}
 use Rattle.row.proofs.wholes.has_misfit.Statement.{statement}

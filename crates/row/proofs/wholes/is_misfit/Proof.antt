@@ -2,7 +2,7 @@
 use mathlib.Core.Path.{ap}
 use mathlib.Core.Bool.{Bool, not, _&&_}
 use lib.Ieee.{le}
-use Rattle.row.specs.Convert.{nought, lastU16}
+use Rattle.row.specs.Inner.{nought, lastU16}
 use borrow.Author.Needs.{needs}
 use Rattle.row.proofs.wholes.is_misfit.Statement.{statement}
 use Rattle.row.proofs.wholes.is_misfit.Tie as tie

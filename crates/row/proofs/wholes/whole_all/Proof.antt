@@ -2,7 +2,7 @@
 use Prim.Native.Nat.{_-_}
 use lib.ListN.{length}
 use lib.Ieee.{nan}
-use Rattle.row.specs.Convert.{isMisfit, asU16}
+use Rattle.row.specs.Inner.{isMisfit, asU16}
 use Rattle.row.proofs.Scan.{first-none}
 use Rattle.row.proofs.Written.{Written, write-step, write-end}
 use borrow.Author.Needs.{needs}

@@ -1,5 +1,5 @@
 -- Each arm knows what was answered.
-use mathlib.Core.Path.{sym, ap}
+use mathlib.Core.Path.{sym, _∙_, ap}
 use borrow.Author.Needs.{needs}
 use Rattle.key.specs.declared.Written.{Written}
 use Rattle.key.specs.Key.{writtenOutcome}
@@ -11,7 +11,7 @@ returns : tie.Need-returns
 returns c = sym (ap (λ (r : Written). measuredOf (writtenOutcome r)) (c .before .w .given .1))
 
 returns-2 : tie.Need-returns-2
-returns-2 c = sym (ap (λ (r : Written). measuredOf (writtenOutcome r)) (c .before .w2 .given .1))
+returns-2 c = c .measure-refused .ensures ∙ sym (ap (λ (r : Written). measuredOf (writtenOutcome r)) (c .before .before .w2 .given .1))
 
 pub measured-by-spec : {M : Type 1} → statement M
-measured-by-spec = tie.close (tie.spec (λ c. search needs) (λ c. search needs) returns returns-2)
+measured-by-spec = tie.close (tie.spec (λ c. search needs) (λ c. search needs) (λ c κs. search needs) returns returns-2)

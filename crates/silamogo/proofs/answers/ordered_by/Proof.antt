@@ -17,7 +17,7 @@ unfolding with-order
 returns c = ap with-order (c .order-number .ensures) ∙ sym (ap (λ (r : Compared). orderedOf (comparedOutcome r)) (c .before .before .c .given .1))
 
 returns-2 : tie.Need-returns-2
-returns-2 c = sym (ap (λ (r : Compared). orderedOf (comparedOutcome r)) (c .before .c2 .given .1))
+returns-2 c = c .order-refused .ensures ∙ sym (ap (λ (r : Compared). orderedOf (comparedOutcome r)) (c .before .before .c2 .given .1))
 
 pub ordered-by-spec : {M : Type 1} → statement M
-ordered-by-spec = tie.close (tie.spec (λ c. search needs) (λ c κs. search needs) (λ c. search needs) returns returns-2)
+ordered-by-spec = tie.close (tie.spec (λ c. search needs) (λ c κs. search needs) (λ c. search needs) (λ c κs. search needs) returns returns-2)

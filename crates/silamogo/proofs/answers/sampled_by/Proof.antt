@@ -1,8 +1,8 @@
 -- Each arm knows what was answered.
 use mathlib.Core.Path.{sym, _∙_, ap}
 use borrow.Author.Needs.{needs}
-use Rattle.cmp.specs.declared.Chosen.{Chosen}
-use Rattle.cmp.specs.Choose.{chosenOutcome}
+use Rattle.choose.specs.declared.Chosen.{Chosen}
+use Rattle.choose.specs.Choose.{chosenOutcome}
 use Rattle.silamogo.specs.Answer.{sampledOf}
 use Rattle.silamogo.proofs.answers.sampled_by.Statement.{statement}
 use Rattle.silamogo.proofs.answers.sampled_by.Tie as tie

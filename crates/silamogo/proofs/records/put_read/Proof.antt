@@ -13,12 +13,13 @@ returns : tie.Need-returns
 returns c =
     let put = c .before .before in
     let start = put .before .before .before .before .before .before in
-    done-bits (start .args .x) (start .args .bits .now) (put .before .before .enum-told .given .1) _ (put .put-bits .ensures)
+    done-bits (start .args .x) (start .args .bits .now) (put .before .before .enum-told .given .1) _ (put .put-bits .kept .1 .0) (put .put-bits .ensures)
 
 returns-2 : tie.Need-returns-2
 returns-2 c =
-    let start = c .before .before .before .before .before in
-    refused-bits (start .args .x) (start .args .bits .now) _ (c .before .outcome .given .1)
+    let arm = c .before .before in
+    let start = arm .before .before .before .before in
+    refused-bits (start .args .x) (start .args .bits .now) _ (arm .outcome .given .1) (c .answer-refused .ensures)
 
 pub put-read-spec : {M : Type 1} → statement M
-put-read-spec = tie.close (tie.spec (λ c. search needs) put-bits-requires (λ c. search needs) (λ c. search needs) returns returns-2)
+put-read-spec = tie.close (tie.spec (λ c. search needs) put-bits-requires (λ c. search needs) (λ c. search needs) (λ c. search needs) returns returns-2)

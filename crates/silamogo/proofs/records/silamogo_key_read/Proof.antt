@@ -8,14 +8,15 @@ returns : tie.Need-returns
 returns c =
     let asked = c .before .before in
     let args = asked .before .before .before .before .args in
-    read-unnamed (args .kinds .now) (args .key .now) (args .bits .now) (asked .any-unnamed .ensures) (c .before .if1 .taken) (c .read-refused .ensures)
+    read-unnamed (args .kinds .now) (args .key .now) (args .bits .now) (asked .any-unnamed .ensures) (c .before .if1 .taken) (c .answer-refused .ensures)
 
 returns-2 : tie.Need-returns-2
 returns-2 c =
     let named = c .before .before in
     let asked = named .before in
     let args = asked .before .before .before .before .args in
-    read-uneven (args .kinds .now) (args .key .now) (args .bits .now) (asked .any-unnamed .ensures) (named .if1 .left) (c .before .if2 .taken) (c .read-refused2 .ensures)
+    read-uneven (args .kinds .now) (args .key .now) (args .bits .now) (asked .any-unnamed .ensures) (named .if1 .left)
+    (c .before .if2 .taken) (c .answer-refused2 .ensures)
 
 put-read-requires : tie.Need-put-read-requires
 put-read-requires c κs =

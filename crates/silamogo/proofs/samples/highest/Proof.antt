@@ -1,23 +1,19 @@
--- Each arm knows its kinds.
-use mathlib.Core.Path.{_≡_, refl}
-use mathlib.Core.List.{[], _∷_}
-use Prim.Native.Nat.{_-_, _^_}
-use Rattle.value.specs.Kinds.{widthOf}
-use Rattle.key.proofs.KindArms.{kind-arm}
+-- As many ones as the kind has bits.
+use mathlib.Core.Path.{_∙_, ap}
+use Prim.Native.Nat.{ℕ, _-_, _^_}
+use native.Mathlib.Omega.{arith}
+use borrow.Author.Needs.{needs}
+use Rattle.silamogo.proofs.Widths.{ones-left}
 use Rattle.silamogo.proofs.samples.highest.Statement.{statement}
 use Rattle.silamogo.proofs.samples.highest.Tie as tie
 
+shr-result : tie.Need-shr-result
+shr-result c = omega (arith, c .width-of .ensures .1)
+
 returns : tie.Need-returns
-returns c = kind-arm (λ k. 0xff ≡ 2 ^ widthOf k - 1) 0 (4 ∷ []) (c .before .args .k) (c .match .keys1) (refl, refl)
-
-returns-2 : tie.Need-returns-2
-returns-2 c = kind-arm (λ k. 0xffff ≡ 2 ^ widthOf k - 1) 1 (5 ∷ []) (c .before .args .k) (c .match .keys2) (refl, refl)
-
-returns-3 : tie.Need-returns-3
-returns-3 c = kind-arm (λ k. 0xffff_ffff ≡ 2 ^ widthOf k - 1) 2 (6 ∷ 8 ∷ []) (c .before .args .k) (c .match .keys3) (refl, (refl, refl))
-
-returns-4 : tie.Need-returns-4
-returns-4 c = kind-arm (λ k. 0xffff_ffff_ffff_ffff ≡ 2 ^ widthOf k - 1) 3 (7 ∷ 9 ∷ []) (c .before .args .k) (c .match .keys4) (refl, (refl, refl))
+returns c =
+    let w = c .width-of .ensures in
+    ones-left _ (w .2) ∙ ap (λ (n : ℕ). 2 ^ n - 1) (w .0)
 
 pub highest-spec : {M : Type 1} → statement M
-highest-spec = tie.close (tie.spec returns returns-2 returns-3 returns-4)
+highest-spec = tie.close (tie.spec (λ c κs. search needs) (λ c. search needs) shr-result returns)

@@ -1,7 +1,7 @@
 -- The tests of the kind and of the bits.
 use mathlib.Core.Path.{_∙_, ap}
 use borrow.Author.Needs.{needs}
-use Rattle.silamogo.specs.Samples.{ruleFor}
+use Rattle.silamogo.specs.Inner.{ruleFor}
 use Rattle.silamogo.specs.Single.{notFloat}
 use Rattle.silamogo.proofs.SampleRules.{one-wide}
 use Rattle.silamogo.proofs.samples.rule_of_float.Statement.{statement}

@@ -1,7 +1,7 @@
 -- The rules, then the library's answer as numbers.
 use mathlib.Core.Path.{_∙_, ap}
 use borrow.Author.Needs.{needs}
-use Rattle.cmp.specs.Choose as library
+use Rattle.choose.specs.Choose as library
 use Rattle.silamogo.specs.Answer.{sampledOf}
 use Rattle.silamogo.specs.Single.{maxOf}
 use Rattle.silamogo.proofs.SampleRules.{two-stop, two-past}

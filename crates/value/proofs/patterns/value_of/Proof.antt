@@ -3,13 +3,14 @@ use mathlib.Core.Path.{_≡_, sym, _∙_, ap}
 use Prim.Native.Nat.{ℕ, _%_, _^_, _<_}
 use native.Mathlib.Nat.{mod-eq-of-lt}
 use borrow.Author.Needs.{needs}
+use lib.Dec.{lit≤}
 use mir.Syntax.{w8, w16, w32, w64}
 use mir.Val.{SFits}
 use mir.ValLaws.{toZ-ofZ}
 use Rattle.value.specs.declared.Kind.{Kind}
 use Rattle.value.specs.declared.Value.the-variants.{U64, I8, I16, I32, I64}
 use Rattle.value.specs.Meaning.{fromTwos, f64Value, valueOf}
-use Rattle.value.proofs.TwosComplement.{recast, recast-back}
+use Rattle.value.proofs.TwosComplement.{narrowed, narrowed-back}
 use Rattle.value.proofs.patterns.value_of.Statement.{statement}
 use Rattle.value.proofs.patterns.value_of.Tie as tie
 
@@ -20,35 +21,14 @@ of-kind b q = sym (ap (λ (k : Kind). valueOf k b) q)
 whole : (b : ℕ) → b < 2 ^ 64 → b % 2 ^ 64 ≡ b
 whole b h = mod-eq-of-lt h
 
--- the number fits both widths
-narrow : (c : tie.After-from-twos) → SFits w8 (c .from-twos .result)
-narrow c = record { sfits = c .from-twos .ensures .1 }
-
-wide : (c : tie.After-from-twos) → SFits w64 (c .from-twos .result)
-wide c = search needs
-
 cast-t12 : tie.Need-cast-t12
-cast-t12 c = recast w8 (wide c) (narrow c)
-
--- the number fits both widths
-narrow2 : (c : tie.After-from-twos2) → SFits w16 (c .from-twos2 .result)
-narrow2 c = record { sfits = c .from-twos2 .ensures .1 }
-
-wide2 : (c : tie.After-from-twos2) → SFits w64 (c .from-twos2 .result)
-wide2 c = search needs
+cast-t12 c = narrowed w8 (c .from-twos .result) (c .from-twos .ensures .1) (lit≤ tt)
 
 cast-t15 : tie.Need-cast-t15
-cast-t15 c = recast w16 (wide2 c) (narrow2 c)
-
--- the number fits both widths
-narrow3 : (c : tie.After-from-twos3) → SFits w32 (c .from-twos3 .result)
-narrow3 c = record { sfits = c .from-twos3 .ensures .1 }
-
-wide3 : (c : tie.After-from-twos3) → SFits w64 (c .from-twos3 .result)
-wide3 c = search needs
+cast-t15 c = narrowed w16 (c .from-twos2 .result) (c .from-twos2 .ensures .1) (lit≤ tt)
 
 cast-t18 : tie.Need-cast-t18
-cast-t18 c = recast w32 (wide3 c) (narrow3 c)
+cast-t18 c = narrowed w32 (c .from-twos3 .result) (c .from-twos3 .ensures .1) (lit≤ tt)
 
 returns : tie.Need-returns
 unfolding valueOf
@@ -71,19 +51,19 @@ returns-4 c =
 returns-5 : tie.Need-returns-5
 unfolding valueOf
 returns-5 c =
-    ap I8 (recast-back w8 (wide c) (narrow c) ∙ c .from-twos .ensures .0)
+    ap I8 (narrowed-back w8 _ (c .from-twos .ensures .1) (lit≤ tt) ∙ c .from-twos .ensures .0)
     ∙ of-kind (c .before .before .before .args .bits) (c .before .enum-told5 .given .1)
 
 returns-6 : tie.Need-returns-6
 unfolding valueOf
 returns-6 c =
-    ap I16 (recast-back w16 (wide2 c) (narrow2 c) ∙ c .from-twos2 .ensures .0)
+    ap I16 (narrowed-back w16 _ (c .from-twos2 .ensures .1) (lit≤ tt) ∙ c .from-twos2 .ensures .0)
     ∙ of-kind (c .before .before .before .args .bits) (c .before .enum-told6 .given .1)
 
 returns-7 : tie.Need-returns-7
 unfolding valueOf
 returns-7 c =
-    ap I32 (recast-back w32 (wide3 c) (narrow3 c) ∙ c .from-twos3 .ensures .0)
+    ap I32 (narrowed-back w32 _ (c .from-twos3 .ensures .1) (lit≤ tt) ∙ c .from-twos3 .ensures .0)
     ∙ of-kind (c .before .before .before .args .bits) (c .before .enum-told7 .given .1)
 
 returns-8 : tie.Need-returns-8

@@ -1,4 +1,0 @@
-pub mod Sizes
-pub mod Turns
-pub mod Steps
-pub mod Runs

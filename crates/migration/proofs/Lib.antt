@@ -1,0 +1,4 @@
+pub mod Sizes
+pub mod Steps
+pub mod Runs
+pub mod RunDecides

@@ -1,0 +1,9 @@
+// A file moved from kind to kind, or looked at before: a chain of turns, each of which takes the next block (docs/RULES.md: Migration, Report).
+mod blocks;
+mod looks;
+
+pub use blocks::Fault;
+pub use blocks::State;
+pub use blocks::run;
+pub use looks::Look;
+pub use looks::look_through;
