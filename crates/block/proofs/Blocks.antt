@@ -37,9 +37,11 @@ refused-number (refuses m p) h = (p, refl)
 
 -- ---- a block
 
-pub past-room : (from to : Kind) (src : List ℕ) (room : ℕ) → countOf from src ≤ room / bytesOf to → blockAnswer from to src room ≡ rowAnswer (bitsTo to) 0 (samplesOf from src)
+pub past-room : (from to : Kind) (src : List ℕ) (room : ℕ) → countOf from src ≤ room / bytesOf to
+    → blockAnswer from to src room ≡ rowAnswer (bitsTo to) 0 (samplesOf from src)
 unfolding blockAnswer
-past-room from to src room h = ap (λ (b : Bool). refuseIf b 9 0 (rowAnswer (bitsTo to) 0 (samplesOf from src))) (le-ltb (room / bytesOf to) (countOf from src) h)
+past-room from to src room h =
+    ap (λ (b : Bool). refuseIf b 9 0 (rowAnswer (bitsTo to) 0 (samplesOf from src))) (le-ltb (room / bytesOf to) (countOf from src) h)
 
 module _ (from to : Kind) (src old : List ℕ) where
   abbrev samples : List Value
@@ -60,7 +62,8 @@ module _ (from to : Kind) (src old : List ℕ) where
   block-short h = block-refused (no-room h)
 
   -- what a block without a refusal leaves
-  pub block-output : (rs : List ℕ) → countOf from src ≤ length old / bytesOf to → gives done ≡ blockAnswer from to src (length old) → rowResults (bitsTo to) samples ≡ rs → length rs ≡ countOf from src
+  pub block-output : (rs : List ℕ) → countOf from src ≤ length old / bytesOf to
+      → gives done ≡ blockAnswer from to src (length old) → rowResults (bitsTo to) samples ≡ rs → length rs ≡ countOf from src
       → {now : List ℕ} → now ≡ sets old 0 (bytesFor to rs) → BlockAnswers (gives done) now
   unfolding blockExit outputOf
   block-output rs room o r many {now} q =
@@ -87,13 +90,15 @@ module _ (from to : Kind) (src old : List ℕ) where
         let bad = refused-number (bitsTo to (getD samples i (valueOf from 0))) hit in
         let at : bitsTo to (getD samples (first (refusedTo to) samples) (valueOf from 0)) ≡ refuses m (bad .0) =
         ap (λ (j : ℕ). bitsTo to (getD samples j (valueOf from 0))) (sym i-is) ∙ bad .1 ∙ ap (λ (k : ℕ). refuses k (bad .0)) (sym q) in
-        let r = row-refused (bitsTo to) (refusedTo to) (movedBits to) (λ v. Unit {0}) (valueOf from 0) (λ v u t. given-bits (bitsTo to v) t) m (bad .0) 0 samples (λ j k. tt) (omega arith) at in
+        let r = row-refused (bitsTo to) (refusedTo to) (movedBits to) (λ v. Unit {0}) (valueOf from 0)
+        (λ v u t. given-bits (bitsTo to v) t) m (bad .0) 0 samples (λ j k. tt) (omega arith) at in
         block-refused (sym (passed ∙ r ∙ ap (λ (j : ℕ). refuses m j) (zero-add (first (refusedTo to) samples) ∙ sym i-is)))
 
     pub block-done : countOf from src ≤ i → {now : List ℕ} → now ≡ sets old 0 (bytesFor to (map (movedBits to) samples)) → BlockAnswers (gives done) now
     block-done h {now} q =
         let all = first-all (refusedTo to) samples i i-is (omega (arith, count-is)) in
-        let r = row-done (bitsTo to) (refusedTo to) (movedBits to) (λ v. Unit {0}) (valueOf from 0) (λ v u t. given-bits (bitsTo to v) t) 0 samples (λ j k. tt) all in
+        let r = row-done (bitsTo to) (refusedTo to) (movedBits to) (λ v. Unit {0}) (valueOf from 0)
+        (λ v u t. given-bits (bitsTo to v) t) 0 samples (λ j k. tt) all in
         block-output (map (movedBits to) samples) room (sym (passed ∙ r .0)) (r .1) (length-map samples (movedBits to) ∙ count-is) q
 
 -- the counts that the code asked for
@@ -141,13 +146,16 @@ module _ (from to : Kind) (before : ℕ) (answer : Outcome Success) (src old : L
     -- an earlier refusal stays
     pub step-stays : {m p : ℕ} → answer ≡ refuses m p → StepAnswers answer old
     step-stays {m} {p} e =
-        let q : refuses m p ≡ stepAnswer from to before answer src (length old) = sym (passed-left ∙ ap (λ a. andThen a (λ d. placedFrom before (blockAnswer from to src (length old)))) e) in
+        let q : refuses m p ≡ stepAnswer from to before answer src (length old) =
+        sym (passed-left ∙ ap (λ a. andThen a (λ d. placedFrom before (blockAnswer from to src (length old)))) e) in
         (e ∙ q, step-refused q .1)
 
-    pub step-block : answer ≡ gives done → {b o : Outcome Success} {now : List ℕ} → BlockAnswers from to src old b now → o ≡ placedFrom before b → StepAnswers o now
+    pub step-block : answer ≡ gives done → {b o : Outcome Success} {now : List ℕ} → BlockAnswers from to src old b now
+        → o ≡ placedFrom before b → StepAnswers o now
     unfolding stepExit blockExit
     step-block e {b} {o} {now} w q =
-        let a : o ≡ stepAnswer from to before answer src (length old) = q ∙ ap (placedFrom before) (w .0) ∙ sym (passed-left ∙ ap (λ a. andThen a (λ d. placedFrom before (blockAnswer from to src (length old)))) e) in
+        let a : o ≡ stepAnswer from to before answer src (length old) =
+        q ∙ ap (placedFrom before) (w .0) ∙ sym (passed-left ∙ ap (λ a. andThen a (λ d. placedFrom before (blockAnswer from to src (length old)))) e) in
         let p : placedFrom before (blockAnswer from to src (length old)) ≡ stepAnswer from to before answer src (length old) =
         ap (placedFrom before) (sym (w .0)) ∙ sym q ∙ a in (
           a,

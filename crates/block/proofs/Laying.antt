@@ -18,7 +18,8 @@ module _ (old : List ℕ) (to width n : ℕ) where
   pub lay-step : (now : List ℕ) (at left rest : ℕ) → 0 < left → Laying now at left rest → Laying (set now at (rest % 256)) (at + 1) (left - 1) (rest / 256)
   unfolding littleEndian
   lay-step now at zero rest some i = absurd (omega arith)
-  lay-step now at (suc left) rest some i = let e : suc left - 1 ≡ left = omega arith in (omega (arith, i .0), length-set now at (rest % 256) ∙ i .1, rw (add-one at, e) (i .2))
+  lay-step now at (suc left) rest some i = let e : suc left - 1 ≡ left = omega arith in
+      (omega (arith, i .0), length-set now at (rest % 256) ∙ i .1, rw (add-one at, e) (i .2))
 
   pub lay-end : (now : List ℕ) (at left rest : ℕ) → left ≤ 0 → Laying now at left rest → now ≡ sets old to (littleEndian width n)
   unfolding littleEndian
@@ -39,14 +40,17 @@ past-one l j b h = lt-length-set l j (b % 256) h
 pub past-two : (l : List ℕ) (j b : ℕ) {m : ℕ} → m < length l → m < length (set (set l j (b % 256)) (j + 1) (b / 256 % 256))
 past-two l j b h = lt-length-set (set l j (b % 256)) (j + 1) (b / 256 % 256) (past-one l j b h)
 
-pub past-three : (l : List ℕ) (j b : ℕ) {m : ℕ} → m < length l → m < length (set (set (set l j (b % 256)) (j + 1) (b / 256 % 256)) (j + 2) (b / 256 / 256 % 256))
+pub past-three : (l : List ℕ) (j b : ℕ) {m : ℕ} → m < length l
+    → m < length (set (set (set l j (b % 256)) (j + 1) (b / 256 % 256)) (j + 2) (b / 256 / 256 % 256))
 past-three l j b h = lt-length-set (set (set l j (b % 256)) (j + 1) (b / 256 % 256)) (j + 2) (b / 256 / 256 % 256) (past-two l j b h)
 
 pub lay-two : (now : List ℕ) (j b : ℕ) → set (set now j (b % 256)) (j + 1) (b / 256 % 256) ≡ sets now j (littleEndian 2 b)
 unfolding littleEndian
 lay-two now j b = rw (add-one j) refl
 
-pub lay-four : (now : List ℕ) (j b : ℕ) → set (set (set (set now j (b % 256)) (j + 1) (b / 256 % 256)) (j + 2) (b / 256 / 256 % 256)) (j + 3) (b / 256 / 256 / 256 % 256) ≡ sets now j (littleEndian 4 b)
+pub lay-four : (now : List ℕ) (j b : ℕ)
+    → set (set (set (set now j (b % 256)) (j + 1) (b / 256 % 256)) (j + 2) (b / 256 / 256 % 256)) (j + 3)
+    (b / 256 / 256 / 256 % 256) ≡ sets now j (littleEndian 4 b)
 unfolding littleEndian
 lay-four now j b =
     let two : j + 2 ≡ suc (suc j) = omega arith in

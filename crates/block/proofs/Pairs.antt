@@ -93,7 +93,8 @@ numbers-one (x ∷ xs) = rw (zero-add x, numbers-one xs) refl
 pub widened-block : (src old : List ℕ) → countOf kind.U8 src ≤ length old / bytesOf kind.U16 → ((i : ℕ) → getD src i 0 < 256)
     → {now : List ℕ} → now ≡ sets old 0 (bytesFor kind.U16 (map (λ (n : ℕ). n) src)) → BlockAnswers kind.U8 kind.U16 src old (gives done) now
 widened-block src old room bytes {now} q =
-    let row : src ≡ map (λ (n : ℕ). n) (numbersIn 1 (countOf kind.U8 src) src) = sym (map-same (numbersIn 1 (countOf kind.U8 src) src) ∙ ap (λ (m : ℕ). numbersIn 1 m src) (div-one (length src)) ∙ numbers-one src) in
+    let row : src ≡ map (λ (n : ℕ). n) (numbersIn 1 (countOf kind.U8 src) src) =
+    sym (map-same (numbersIn 1 (countOf kind.U8 src) src) ∙ ap (λ (m : ℕ). numbersIn 1 m src) (div-one (length src)) ∙ numbers-one src) in
     let w = agree-by kind.U8 kind.U16 u8ToU16 (λ n. n) (λ n. n) u8-sample src bytes src row in
     row-always kind.U8 kind.U16 src old room u8ToU16 (λ n. n) (λ n. n) (λ n. n < 2 ^ 8) u8-wider src 0 (w .0) (w .1) (λ i h. bytes i)
     (q ∙ ap (λ (l : List ℕ). sets old 0 (bytesFor kind.U16 (map (λ (n : ℕ). n) l))) (sym (map-same src)))
@@ -119,14 +120,16 @@ unfolding any
 casts-numbers [] all = refl
 casts-numbers (x ∷ xs) all = rw (cast-number (asF32 x) false x (cast-value x (all 0 (omega arith)))) (casts-numbers xs (λ i h. all (suc i) (omega arith)))
 
-pub floated-row : (xs : List ℕ) (ys : List Float) → length xs ≡ length ys → ((i : ℕ) → i < length xs → getD xs i 0 < 2 ^ 16) → convertExit u16ToF32 xs ys ≡ map asF32 xs
+pub floated-row : (xs : List ℕ) (ys : List Float) → length xs ≡ length ys → ((i : ℕ) → i < length xs → getD xs i 0 < 2 ^ 16)
+    → convertExit u16ToF32 xs ys ≡ map asF32 xs
 floated-row xs ys same all = sym (always-done u16ToF32 xs ys asF32 (λ n. n < 2 ^ 16) 0 u16-float same all (map asF32 xs) refl .1)
 
 pub floated-block : (src old : List ℕ) {n : ℕ} → n ≡ countOf kind.U16 src → n ≤ length old / bytesOf kind.F32 → ((i : ℕ) → getD src i 0 < 256)
     → {now : List ℕ} → now ≡ sets old 0 (bytesFor kind.F32 (map floatedBits (numbersIn 2 n src))) → BlockAnswers kind.U16 kind.F32 src old (gives done) now
 floated-block src old {n} count room bytes {now} q =
     let xs = numbersIn 2 n src in
-    let row : xs ≡ map (λ (n : ℕ). n) (numbersIn 2 (countOf kind.U16 src) src) = ap (λ (m : ℕ). numbersIn 2 m src) count ∙ sym (map-same (numbersIn 2 (countOf kind.U16 src) src)) in
+    let row : xs ≡ map (λ (n : ℕ). n) (numbersIn 2 (countOf kind.U16 src) src) =
+    ap (λ (m : ℕ). numbersIn 2 m src) count ∙ sym (map-same (numbersIn 2 (countOf kind.U16 src) src)) in
     let w = agree-by kind.U16 kind.F32 u16ToF32 plainBits (λ n. n) u16-floated src bytes xs row in
     row-always kind.U16 kind.F32 src old (rw (← count) room) u16ToF32 plainBits asF32 (λ n. n < 2 ^ 16) u16-float xs 0 (w .0) (w .1)
     (λ i h. numbers-small 2 n src bytes i (rw (← length-numbers 2 n src) h))
@@ -135,19 +138,22 @@ floated-block src old {n} count room bytes {now} q =
 -- ---- u16 to u8: the second row is the front of the buffer
 
 -- bytes are laid down as they are
-results-bytes : {A : Type 0} (conv : A → Outcome ℕ) → ((x : A) (b : ℕ) → conv x ≡ gives b → b < 2 ^ 8) → (xs : List A) → bytesFor kind.U8 (rowResults conv xs) ≡ rowResults conv xs
+results-bytes : {A : Type 0} (conv : A → Outcome ℕ) → ((x : A) (b : ℕ) → conv x ≡ gives b → b < 2 ^ 8) → (xs : List A)
+    → bytesFor kind.U8 (rowResults conv xs) ≡ rowResults conv xs
 unfolding rowResults bytesFor littleEndian
 results-bytes conv small [] = refl
 results-bytes conv small (x ∷ xs) = go (conv x) refl (results-bytes conv small xs)
   where
-    go : (o : Outcome ℕ) → conv x ≡ o → bytesFor kind.U8 (rowResults conv xs) ≡ rowResults conv xs → bytesFor kind.U8 (sampleBefore o (rowResults conv xs)) ≡ sampleBefore o (rowResults conv xs)
+    go : (o : Outcome ℕ) → conv x ≡ o → bytesFor kind.U8 (rowResults conv xs) ≡ rowResults conv xs
+        → bytesFor kind.U8 (sampleBefore o (rowResults conv xs)) ≡ sampleBefore o (rowResults conv xs)
     go (gives b) q rest = rw (mod-eq-of-lt (small x b q), rest) refl
     go (refuses m p) q rest = rest
 
 front-set : (zs old : List ℕ) (n : ℕ) → length zs ≡ n → n ≤ length old → sets old 0 zs ≡ zs ++ drop n old
 front-set zs old n size room = sets-eq zs old 0 (rw (zero-add (length zs), size) room) ∙ ap (λ (m : ℕ). zs ++ drop m old) (zero-add (length zs) ∙ size)
 
-module _ (src old row : List ℕ) (row-has : row ≡ numbersIn 2 (countOf kind.U16 src) src) (room : length row ≤ length old) (bytes : (i : ℕ) → getD src i 0 < 256) where
+module _ (src old row : List ℕ) (row-has : row ≡ numbersIn 2 (countOf kind.U16 src) src) (room : length row ≤ length old)
+    (bytes : (i : ℕ) → getD src i 0 < 256) where
   abbrev front : List ℕ
   front = take (length row) old
 
@@ -160,13 +166,18 @@ module _ (src old row : List ℕ) (row-has : row ≡ numbersIn 2 (countOf kind.U
   inside : countOf kind.U16 src ≤ length old / bytesOf kind.U8
   inside = rw (div-one (length old), ← greys .0) room
 
-  pub narrowed-block : (o : Outcome Success) {zs : List ℕ} → o ≡ convertAnswer u16ToU8 row front → zs ≡ convertExit u16ToU8 row front → BlockAnswers kind.U16 kind.U8 src old o (zs ++ drop (length row) old)
+  pub narrowed-block : (o : Outcome Success) {zs : List ℕ} → o ≡ convertAnswer u16ToU8 row front
+      → zs ≡ convertExit u16ToU8 row front → BlockAnswers kind.U16 kind.U8 src old o (zs ++ drop (length row) old)
   unfolding convertExit
   narrowed-block (gives done) {zs} q z =
       let left : zs ≡ rowResults u16ToU8 row = z ∙ left-is kind.U16 kind.U8 src old inside u16ToU8 (λ n. n) row front 0 (greys .0) same-front (greys .1) q in
-      let size : length zs ≡ length row = ap length left ∙ results-length u16ToU8 0 row (sym (q ∙ row-is kind.U16 kind.U8 src old inside u16ToU8 (λ n. n) row front 0 (greys .0) same-front (greys .1))) in
-      let plain : bytesFor kind.U8 (map (λ (n : ℕ). n) zs) ≡ zs = ap (bytesFor kind.U8) (map-same zs ∙ left) ∙ results-bytes u16ToU8 narrow-small row ∙ sym left in
-      row-gives kind.U16 kind.U8 src old inside u16ToU8 (λ n. n) row front 0 (greys .0) same-front (greys .1) q z (sym (ap (sets old 0) plain ∙ front-set zs old (length row) size room))
+      let size : length zs ≡ length row =
+      ap length left ∙ results-length u16ToU8 0 row
+      (sym (q ∙ row-is kind.U16 kind.U8 src old inside u16ToU8 (λ n. n) row front 0 (greys .0) same-front (greys .1))) in
+      let plain : bytesFor kind.U8 (map (λ (n : ℕ). n) zs) ≡ zs =
+      ap (bytesFor kind.U8) (map-same zs ∙ left) ∙ results-bytes u16ToU8 narrow-small row ∙ sym left in
+      row-gives kind.U16 kind.U8 src old inside u16ToU8 (λ n. n) row front 0 (greys .0) same-front (greys .1) q z
+      (sym (ap (sets old 0) plain ∙ front-set zs old (length row) size room))
   narrowed-block (refuses m p) {zs} q z =
       let left : zs ≡ front = z ∙ refused-unchanged (λ (d : Success). rowResults u16ToU8 row) front (sym q) in
       let r = row-refuses kind.U16 kind.U8 src old inside u16ToU8 (λ n. n) row front 0 (greys .0) same-front (greys .1) q in
@@ -174,6 +185,9 @@ module _ (src old row : List ℕ) (row-has : row ≡ numbersIn 2 (countOf kind.U
 
 -- ---- f32 to u16
 
-pub f32-row-agrees : (src : List ℕ) → ((i : ℕ) → getD src i 0 < 256) → (row : List Float) {m : ℕ} → m ≡ countOf kind.F32 src → row ≡ map (ofBits binary32) (numbersIn 4 m src)
+pub f32-row-agrees : (src : List ℕ) → ((i : ℕ) → getD src i 0 < 256) → (row : List Float) {m : ℕ} → m ≡ countOf kind.F32 src
+    → row ≡ map (ofBits binary32) (numbersIn 4 m src)
     → (length row ≡ countOf kind.F32 src) × Agree (bitsTo kind.U16) f32ToU16 (λ n. n) (U8 0) (ofBits binary32 0) (samplesOf kind.F32 src) row
-f32-row-agrees src bytes row count q = agree-by kind.F32 kind.U16 f32ToU16 (λ n. n) (ofBits binary32) f32-sample src bytes row (q ∙ ap (λ (m : ℕ). map (ofBits binary32) (numbersIn 4 m src)) count)
+f32-row-agrees src bytes row count q =
+    agree-by kind.F32 kind.U16 f32ToU16 (λ n. n) (ofBits binary32) f32-sample src bytes row
+    (q ∙ ap (λ (m : ℕ). map (ofBits binary32) (numbersIn 4 m src)) count)

@@ -48,7 +48,8 @@ module _ {A B C D : Type 0} (f : A → Outcome B) (g : C → Outcome D) (enc : D
   same-before (gives y) l = refl
   same-before (refuses m p) l = refl
 
-  pub rows-agree : (at : ℕ) (vs : List A) (xs : List C) → length vs ≡ length xs → Agree vs xs → (rowAnswer f at vs ≡ rowAnswer g at xs) × (rowResults f vs ≡ map enc (rowResults g xs))
+  pub rows-agree : (at : ℕ) (vs : List A) (xs : List C) → length vs ≡ length xs → Agree vs xs
+      → (rowAnswer f at vs ≡ rowAnswer g at xs) × (rowResults f vs ≡ map enc (rowResults g xs))
   unfolding rowAnswer rowResults
   rows-agree at [] [] h p = (refl, refl)
   rows-agree at [] (x ∷ xs) h p = absurd (omega arith)
@@ -65,13 +66,15 @@ unfolding rowAnswer rowResults
 results-length conv at [] h = refl
 results-length {A} {B} conv at (x ∷ xs) h = go (conv x) h (λ k. results-length conv (suc at) xs k)
   where
-    go : (o : Outcome B) → sampleThen at o (rowAnswer conv (suc at) xs) ≡ gives done → (rowAnswer conv (suc at) xs ≡ gives done → length (rowResults conv xs) ≡ length xs) → length (sampleBefore o (rowResults conv xs)) ≡ suc (length xs)
+    go : (o : Outcome B) → sampleThen at o (rowAnswer conv (suc at) xs) ≡ gives done
+        → (rowAnswer conv (suc at) xs ≡ gives done → length (rowResults conv xs) ≡ length xs) → length (sampleBefore o (rowResults conv xs)) ≡ suc (length xs)
     go (gives y) k rest = ap suc (rest k)
     go (refuses m p) k rest = clash cc
 
 -- ---- the block by its row
 
-module _ (from to : Kind) (src old : List ℕ) (room : countOf from src ≤ length old / bytesOf to) {A B : Type 0} (conv : A → Outcome B) (enc : B → ℕ) (xs : List A) (ys : List B) (e : A)
+module _ (from to : Kind) (src old : List ℕ) (room : countOf from src ≤ length old / bytesOf to) {A B : Type 0}
+    (conv : A → Outcome B) (enc : B → ℕ) (xs : List A) (ys : List B) (e : A)
     (many : length xs ≡ countOf from src) (same : length xs ≡ length ys) (agree : Agree (bitsTo to) conv enc (U8 0) e (samplesOf from src) xs) where
   rows : (rowAnswer (bitsTo to) 0 (samplesOf from src) ≡ rowAnswer conv 0 xs) × (rowResults (bitsTo to) (samplesOf from src) ≡ map enc (rowResults conv xs))
   rows = rows-agree (bitsTo to) conv enc (U8 0) e 0 (samplesOf from src) xs (length-samples from (countOf from src) src ∙ sym many) agree
@@ -90,7 +93,8 @@ module _ (from to : Kind) (src old : List ℕ) (room : countOf from src ≤ leng
   unfolding convertExit
   left-is q = given-fills (λ (d : Success). rowResults conv xs) ys (sym q) (results-length conv 0 xs (sym row-is ∙ sym q) ∙ same)
 
-  pub row-gives : gives done ≡ convertAnswer conv xs ys → {zs : List B} → zs ≡ convertExit conv xs ys → {now : List ℕ} → now ≡ sets old 0 (bytesFor to (map enc zs)) → BlockAnswers from to src old (gives done) now
+  pub row-gives : gives done ≡ convertAnswer conv xs ys → {zs : List B} → zs ≡ convertExit conv xs ys → {now : List ℕ}
+      → now ≡ sets old 0 (bytesFor to (map enc zs)) → BlockAnswers from to src old (gives done) now
   row-gives q {zs} z {now} w =
       let r = rowResults conv xs in
       block-output from to src old (map enc r) room (answer-is q) (rows .1)
@@ -98,8 +102,10 @@ module _ (from to : Kind) (src old : List ℕ) (room : countOf from src ≤ leng
       (w ∙ ap (λ (l : List B). sets old 0 (bytesFor to (map enc l))) (z ∙ left-is q))
 
 -- a row in which no sample is refused
-module _ (from to : Kind) (src old : List ℕ) (room : countOf from src ≤ length old / bytesOf to) {A B : Type 0} (conv : A → Outcome B) (enc : B → ℕ) (f : A → B) (P : A → Type 0)
-    (good : (x : A) → P x → conv x ≡ gives (f x)) (xs : List A) (e : A) (many : length xs ≡ countOf from src) (agree : Agree (bitsTo to) conv enc (U8 0) e (samplesOf from src) xs)
+module _ (from to : Kind) (src old : List ℕ) (room : countOf from src ≤ length old / bytesOf to) {A B : Type 0}
+    (conv : A → Outcome B) (enc : B → ℕ) (f : A → B) (P : A → Type 0)
+    (good : (x : A) → P x → conv x ≡ gives (f x)) (xs : List A) (e : A) (many : length xs ≡ countOf from src)
+    (agree : Agree (bitsTo to) conv enc (U8 0) e (samplesOf from src) xs)
     (all : (i : ℕ) → i < length xs → P (getD xs i e)) where
   pub row-always : {now : List ℕ} → now ≡ sets old 0 (bytesFor to (map enc (map f xs))) → BlockAnswers from to src old (gives done) now
   row-always q =
@@ -115,7 +121,8 @@ pub numbers-small : (w n : ℕ) (src : List ℕ) → ((i : ℕ) → getD src i 0
 numbers-small w n src bytes i h = rw (number-here w n src i 0 h) (number-below w (drop (i * w) src) (λ j. rw (getD-drop (i * w) src j 0) (bytes (i * w + j))))
 
 -- a row of what the samples' numbers are made into, where each converts as its sample does
-pub agree-by : (from to : Kind) {A D : Type 0} (conv : A → Outcome D) (enc : D → ℕ) (made : ℕ → A) → ((b : ℕ) → b < 256 ^ bytesOf from → bitsTo to (valueOf from b) ≡ mapped enc (conv (made b)))
+pub agree-by : (from to : Kind) {A D : Type 0} (conv : A → Outcome D) (enc : D → ℕ) (made : ℕ → A)
+    → ((b : ℕ) → b < 256 ^ bytesOf from → bitsTo to (valueOf from b) ≡ mapped enc (conv (made b)))
     → (src : List ℕ) → ((i : ℕ) → getD src i 0 < 256) → (row : List A) → row ≡ map made (numbersIn (bytesOf from) (countOf from src) src)
     → (length row ≡ countOf from src) × Agree (bitsTo to) conv enc (U8 0) (made 0) (samplesOf from src) row
 agree-by from to conv enc made alike src bytes row q =
@@ -130,8 +137,11 @@ agree-by from to conv enc made alike src bytes row q =
     )
 
 -- the same block by other names of its kinds
-pub by-kinds : (from to : Kind) {f t : Kind} (src old : List ℕ) → from ≡ f → to ≡ t → {o : Outcome Success} {now : List ℕ} → BlockAnswers f t src old o now → BlockAnswers from to src old o now
-by-kinds from to {f} {t} src old p q {o} {now} w = subst (λ (k : Kind). BlockAnswers k to src old o now) (sym p) (subst (λ (k : Kind). BlockAnswers f k src old o now) (sym q) w)
+pub by-kinds : (from to : Kind) {f t : Kind} (src old : List ℕ) → from ≡ f → to ≡ t → {o : Outcome Success} {now : List ℕ}
+    → BlockAnswers f t src old o now → BlockAnswers from to src old o now
+by-kinds from to {f} {t} src old p q {o} {now} w =
+    subst (λ (k : Kind). BlockAnswers k to src old o now) (sym p) (subst (λ (k : Kind). BlockAnswers f k src old o now) (sym q) w)
 
-pub count-by-kinds : (from to : Kind) {f t : Kind} (src : List ℕ) (n room : ℕ) → from ≡ f → to ≡ t → n ≡ countOf from src → n ≤ room / bytesOf to → (n ≡ countOf f src) × (n ≤ room / bytesOf t)
+pub count-by-kinds : (from to : Kind) {f t : Kind} (src : List ℕ) (n room : ℕ) → from ≡ f → to ≡ t → n ≡ countOf from src
+    → n ≤ room / bytesOf to → (n ≡ countOf f src) × (n ≤ room / bytesOf t)
 count-by-kinds from to src n room p q count fits = (count ∙ ap (λ (k : Kind). countOf k src) p, subst (λ (k : Kind). n ≤ room / bytesOf k) q fits)

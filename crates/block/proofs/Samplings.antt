@@ -41,7 +41,8 @@ length-bytes k (b ∷ bs) =
 pub bytes-append : (k : Kind) (a b : List ℕ) → bytesFor k (a ++ b) ≡ bytesFor k a ++ bytesFor k b
 unfolding bytesFor
 bytes-append k [] b = refl
-bytes-append k (x ∷ a) b = ap (λ (l : List ℕ). littleEndian (bytesOf k) x ++ l) (bytes-append k a b) ∙ sym (append-assoc (littleEndian (bytesOf k) x) (bytesFor k a) (bytesFor k b))
+bytes-append k (x ∷ a) b =
+    ap (λ (l : List ℕ). littleEndian (bytesOf k) x ++ l) (bytes-append k a b) ∙ sym (append-assoc (littleEndian (bytesOf k) x) (bytesFor k a) (bytesFor k b))
 
 bytes-one : (k : Kind) (b : ℕ) → bytesFor k (b ∷ []) ≡ littleEndian (bytesOf k) b
 unfolding bytesFor
@@ -79,19 +80,27 @@ module _ {A : Type 0} (k : Kind) (f : A → ℕ) (s : List A) (old : List ℕ) (
   fill-piece i j h now place p g e =
       let filled = bytesFor k (take i (map f s)) in
       let piece = bytesFor k (map f (take j (drop i s))) in
-      let size : length filled ≡ i * bytesOf k = length-bytes k (take i (map f s)) ∙ ap (λ (m : ℕ). m * bytesOf k) (length-take-le i (map f s) (rw (length-map s f) h)) in
+      let size : length filled ≡ i * bytesOf k =
+      length-bytes k (take i (map f s)) ∙ ap (λ (m : ℕ). m * bytesOf k) (length-take-le i (map f s) (rw (length-map s f) h)) in
       let here : place ≡ from + length filled = p ∙ ap (λ (m : ℕ). from + m) (sym size) in
       let whole : filled ++ piece ≡ bytesFor k (take (i + j) (map f s)) =
-      sym (ap (bytesFor k) (take-add i j (map f s)) ∙ bytes-append k (take i (map f s)) (take j (drop i (map f s))) ∙ ap (λ (l : List ℕ). filled ++ bytesFor k l) (sym (map-piece f i j s))) in (
+      sym (ap (bytesFor k) (take-add i j (map f s))
+      ∙ bytes-append k (take i (map f s)) (take j (drop i (map f s)))
+      ∙ ap (λ (l : List ℕ). filled ++ bytesFor k l) (sym (map-piece f i j s))) in (
         ap length e ∙ length-sets now place piece ∙ g .0,
         e ∙ rw (g .1, here) refl ∙ sets-append filled piece old from ∙ ap (sets old from) whole,
       )
 
-  pub fill-step : (i : ℕ) (d : A) → i < length s → {v : A} → getD s i d ≡ v → {b : ℕ} → b ≡ f v → (now : List ℕ) (place u : ℕ) → place ≡ from + i * bytesOf k → u ≡ bytesOf k → Filled now i
+  pub fill-step : (i : ℕ) (d : A) → i < length s → {v : A} → getD s i d ≡ v → {b : ℕ} → b ≡ f v → (now : List ℕ) (place u : ℕ)
+      → place ≡ from + i * bytesOf k → u ≡ bytesOf k → Filled now i
       → {new : List ℕ} → new ≡ sets now place (littleEndian u b) → Filled new (i + 1)
   fill-step i d h v-is {b} b-is now place u p q g e =
       let one : take 1 (drop i s) ≡ getD s i d ∷ [] = ap (take 1) (drop-cons s i d h) in
-      let laid : littleEndian u b ≡ bytesFor k (map f (take 1 (drop i s))) = ap (λ (w : ℕ). littleEndian w b) q ∙ ap (littleEndian (bytesOf k)) (b-is ∙ ap f (sym v-is)) ∙ sym (bytes-one k (f (getD s i d))) ∙ ap (λ (l : List A). bytesFor k (map f l)) (sym one) in
+      let laid : littleEndian u b ≡ bytesFor k (map f (take 1 (drop i s))) =
+      ap (λ (w : ℕ). littleEndian w b) q
+      ∙ ap (littleEndian (bytesOf k)) (b-is ∙ ap f (sym v-is))
+      ∙ sym (bytes-one k (f (getD s i d)))
+      ∙ ap (λ (l : List A). bytesFor k (map f l)) (sym one) in
       fill-piece i 1 (omega arith) now place p g (e ∙ ap (sets now place) laid)
 
   pub fill-end : (now : List ℕ) (i : ℕ) → length s ≤ i → Filled now i → now ≡ sets old from (bytesFor k (map f s))
@@ -99,7 +108,14 @@ module _ {A : Type 0} (k : Kind) (f : A → ℕ) (s : List A) (old : List ℕ) (
 
   -- two pieces that are all of it
   pub fill-two : (i j : ℕ) → i + j ≡ length s → {a b : List A} → a ≡ take i s → b ≡ take j (drop i s) → (place : ℕ) → place ≡ from + i * bytesOf k
-      → {mid new : List ℕ} → mid ≡ sets old from (bytesFor k (map f a)) → new ≡ sets mid place (bytesFor k (map f b)) → new ≡ sets old from (bytesFor k (map f s))
+      → {mid new : List ℕ} → mid ≡ sets old from (bytesFor k (map f a)) → new ≡ sets mid place (bytesFor k (map f b))
+      → new ≡ sets old from (bytesFor k (map f s))
   fill-two i j whole {a} p q place at {mid} {new} m e =
-      let begun : Filled mid i = (ap length m ∙ length-sets old from (bytesFor k (map f a)), m ∙ ap (λ (l : List A). sets old from (bytesFor k (map f l))) p ∙ ap (λ (l : List ℕ). sets old from (bytesFor k l)) (map-take f i s)) in
+      let begun : Filled mid i = (
+        ap length m
+            ∙ length-sets old from (bytesFor k (map f a)),
+        m
+            ∙ ap (λ (l : List A). sets old from (bytesFor k (map f l))) p
+            ∙ ap (λ (l : List ℕ). sets old from (bytesFor k l)) (map-take f i s),
+      ) in
       fill-end new (i + j) (omega arith) (fill-piece i j (omega arith) mid place at begun (e ∙ ap (λ (l : List A). sets mid place (bytesFor k (map f l))) q))

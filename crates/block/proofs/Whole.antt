@@ -54,8 +54,10 @@ module _ (from to : Kind) (room : ℕ) where
     module _ (fits : countOf from b ≤ room / bytesOf to) (ends : leftOf from b ≡ 0) where
       placed : placedFrom (r .samples) (blockAnswer from to b room) ≡ rowAnswer (bitsTo to) (0 + length (samplesOf from p)) (samplesOf from b)
       placed =
-          let n : r .samples + 0 ≡ 0 + length (samplesOf from p) = add-zero (r .samples) ∙ st .count ∙ sym (zero-add (length (samplesOf from p)) ∙ length-samples from (countOf from p) p) in
-          let few : r .samples + 0 + length (samplesOf from b) < 2 ^ 64 = rw (add-zero (r .samples), length-samples from (countOf from b) b, sum-count) (small from (p ++ b) short) in
+          let n : r .samples + 0 ≡ 0 + length (samplesOf from p) =
+          add-zero (r .samples) ∙ st .count ∙ sym (zero-add (length (samplesOf from p)) ∙ length-samples from (countOf from p) p) in
+          let few : r .samples + 0 + length (samplesOf from b) < 2 ^ 64 =
+          rw (add-zero (r .samples), length-samples from (countOf from b) b, sum-count) (small from (p ++ b) short) in
           ap (placedFrom (r .samples)) (past-room from to b room fits)
           ∙ sym (answer-placed (bitsTo to) (r .samples) 0 (samplesOf from b) few)
           ∙ ap (λ (k : ℕ). rowAnswer (bitsTo to) k (samplesOf from b)) n
@@ -71,7 +73,8 @@ module _ (from to : Kind) (room : ℕ) where
           ∙ sym (answer-joined (bitsTo to) 0 (samplesOf from p) (samplesOf from b))
           ∙ ap (rowAnswer (bitsTo to) 0) (sym (samples-of-joined from p b (st .whole)))
 
-      step-laid : stepAnswer from to (r .samples) (r .answer) b room ≡ gives done → r .output ++ writtenBy (stepAnswer from to (r .samples) (r .answer) b room) (outputOf from to b) ≡ outputOf from to (p ++ b)
+      step-laid : stepAnswer from to (r .samples) (r .answer) b room ≡ gives done
+          → r .output ++ writtenBy (stepAnswer from to (r .samples) (r .answer) b room) (outputOf from to b) ≡ outputOf from to (p ++ b)
       step-laid h =
           let before = given-before (r .answer) (λ d. placedFrom (r .samples) (blockAnswer from to b room)) (sym step-parts ∙ h) in
           ap (λ o. r .output ++ writtenBy o (outputOf from to b)) h
@@ -91,10 +94,12 @@ module _ (from to : Kind) (room : ℕ) where
     unfolding migrateOf answerOf
     step-left h =
         let left : leftOf from (p ++ b) ≡ 0 → ⊥ = λ q. h (sym (left-joined from p b (st .whole)) ∙ q) in
-        let o : stepAnswer from to (r .samples) (r .answer) b room ≡ refuses 9 (countOf from (p ++ b)) = sym (left-over from to (r .samples) (r .answer) b room h) ∙ ap (refuses 9) step-counted in (
+        let o : stepAnswer from to (r .samples) (r .answer) b room ≡ refuses 9 (countOf from (p ++ b)) =
+        sym (left-over from to (r .samples) (r .answer) b room h) ∙ ap (refuses 9) step-counted in (
           step-counted,
           ap (mapped (λ d. stepped from to room r b .output)) o
-              ∙ sym (ap (λ (t : Bool). mapped (λ d. outputOf from to (p ++ b)) (refuseIf (not t) 9 (countOf from (p ++ b)) (rowAnswer (bitsTo to) 0 (samplesOf from (p ++ b))))) (ne-eqb (leftOf from (p ++ b)) 0 left)),
+              ∙ sym (ap (λ (t : Bool). mapped (λ d. outputOf from to (p ++ b))
+              (refuseIf (not t) 9 (countOf from (p ++ b)) (rowAnswer (bitsTo to) 0 (samplesOf from (p ++ b))))) (ne-eqb (leftOf from (p ++ b)) 0 left)),
         )
 
   stands-decides : (r : Reached) (p : List ℕ) → Stands r p → Decides r p
@@ -103,10 +108,12 @@ module _ (from to : Kind) (room : ℕ) where
     st .count,
     same-result (r .answer) (st .laid)
         ∙ ap (mapped (λ d. outputOf from to p)) (st .decided)
-        ∙ sym (ap (λ (t : Bool). mapped (λ d. outputOf from to p) (refuseIf (not t) 9 (countOf from p) (rowAnswer (bitsTo to) 0 (samplesOf from p)))) (eq-eqb (leftOf from p) 0 (st .whole))),
+        ∙ sym (ap (λ (t : Bool). mapped (λ d. outputOf from to p)
+        (refuseIf (not t) 9 (countOf from p) (rowAnswer (bitsTo to) 0 (samplesOf from p)))) (eq-eqb (leftOf from p) 0 (st .whole))),
   )
 
-  decides-last : (r : Reached) (p b : List ℕ) → Stands r p → countOf from b ≤ room / bytesOf to → length (p ++ b) < 2 ^ 64 → Decides (stepped from to room r b) (p ++ b)
+  decides-last : (r : Reached) (p b : List ℕ) → Stands r p → countOf from b ≤ room / bytesOf to → length (p ++ b) < 2 ^ 64
+      → Decides (stepped from to room r b) (p ++ b)
   decides-last r p b st fits short = elim (lt-or-ge 0 (leftOf from b)) [
     | inl h ↦ step-left r p b st short (λ q. omega arith)
     | inr h ↦ stands-decides (stepped from to room r b) (p ++ b) (step-stands r p b st short fits (omega arith))
@@ -115,7 +122,8 @@ module _ (from to : Kind) (room : ℕ) where
   shorter : (p q : List ℕ) → length (p ++ q) < 2 ^ 64 → length p < 2 ^ 64
   shorter p q h = let l = length-append p q in omega arith
 
-  run-decides : {bs : List (List ℕ)} → Blocks from to room bs → (r : Reached) (p : List ℕ) → Stands r p → length (p ++ joined bs) < 2 ^ 64 → Decides (runOf from to room r bs) (p ++ joined bs)
+  run-decides : {bs : List (List ℕ)} → Blocks from to room bs → (r : Reached) (p : List ℕ) → Stands r p
+      → length (p ++ joined bs) < 2 ^ 64 → Decides (runOf from to room r bs) (p ++ joined bs)
   run-decides none r p st h = subst (Decides r) (sym (append-nil p)) (stands-decides r p st)
   run-decides (last b fits) r p st h =
       let e : p ++ (b ++ []) ≡ p ++ b = ap (λ (l : List ℕ). p ++ l) (append-nil b) in

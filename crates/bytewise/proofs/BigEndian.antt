@@ -129,7 +129,8 @@ or-equal Equal = refl
 or-equal Greater = refl
 or-equal Unordered = refl
 
-order-from : (m n : ℕ) {a b : List ℕ} → Bytes a → Bytes b → length a ≡ length b → orElse (orderN m n) (bytesOrder a b) ≡ orderN (fromBigEndian m a) (fromBigEndian n b)
+order-from : (m n : ℕ) {a b : List ℕ} → Bytes a → Bytes b → length a ≡ length b
+    → orElse (orderN m n) (bytesOrder a b) ≡ orderN (fromBigEndian m a) (fromBigEndian n b)
 unfolding bytesOrder fromBigEndian
 order-from m n none none q = or-equal (orderN m n)
 order-from m n none (more y ys k b) q = absurd (omega arith)

@@ -22,17 +22,20 @@ number-below (suc w) (x ∷ bytes) h = rw (pow-suc 256 w) (let k = number-below 
 
 -- ---- numbers of two and four bytes
 
-pub two-here : (src : List ℕ) (i : ℕ) → 2 * i + 1 < length src → fromLittleEndian (take 2 (drop (i * 2) src)) ≡ getD src (2 * i + 1) 0 * 256 + getD src (2 * i) 0
+pub two-here : (src : List ℕ) (i : ℕ) → 2 * i + 1 < length src
+    → fromLittleEndian (take 2 (drop (i * 2) src)) ≡ getD src (2 * i + 1) 0 * 256 + getD src (2 * i) 0
 unfolding fromLittleEndian
 two-here src i h =
     let j = 2 * i in
     ap (λ (m : ℕ). fromLittleEndian (take 2 (drop m src))) (mul-comm i 2)
-    ∙ ap (λ (l : List ℕ). fromLittleEndian (take 2 l)) (drop-cons src j 0 (omega arith) ∙ ap (λ (l : List ℕ). getD src j 0 ∷ l) (drop-cons src (suc j) 0 (omega arith)))
+    ∙ ap (λ (l : List ℕ). fromLittleEndian (take 2 l))
+    (drop-cons src j 0 (omega arith) ∙ ap (λ (l : List ℕ). getD src j 0 ∷ l) (drop-cons src (suc j) 0 (omega arith)))
     ∙ ap (λ (x : ℕ). x * 256 + getD src j 0) (zero-add (getD src (suc j) 0))
     ∙ ap (λ (m : ℕ). getD src m 0 * 256 + getD src j 0) (sym (add-one j))
 
 pub four-here : (src : List ℕ) (i : ℕ) → 4 * i + 3 < length src
-    → fromLittleEndian (take 4 (drop (i * 4) src)) ≡ ((getD src (4 * i + 3) 0 * 256 + getD src (4 * i + 2) 0) * 256 + getD src (4 * i + 1) 0) * 256 + getD src (4 * i) 0
+    → fromLittleEndian (take 4 (drop (i * 4) src))
+    ≡ ((getD src (4 * i + 3) 0 * 256 + getD src (4 * i + 2) 0) * 256 + getD src (4 * i + 1) 0) * 256 + getD src (4 * i) 0
 unfolding fromLittleEndian
 four-here src i h =
     let j = 4 * i in
@@ -40,4 +43,13 @@ four-here src i h =
     let two : j + 2 ≡ suc (suc j) = omega arith in
     let three : j + 3 ≡ suc (suc (suc j)) = omega arith in
     ap (λ (m : ℕ). fromLittleEndian (take 4 (drop m src))) (mul-comm i 4)
-    ∙ rw (drop-cons src j 0 (omega arith), drop-cons src (suc j) 0 (omega arith), drop-cons src (suc (suc j)) 0 (omega arith), drop-cons src (suc (suc (suc j))) 0 (omega arith), zero-add (getD src (suc (suc (suc j))) 0), one, two, three) refl
+    ∙ rw (
+      drop-cons src j 0 (omega arith),
+      drop-cons src (suc j) 0 (omega arith),
+      drop-cons src (suc (suc j)) 0 (omega arith),
+      drop-cons src (suc (suc (suc j))) 0 (omega arith),
+      zero-add (getD src (suc (suc (suc j))) 0),
+      one,
+      two,
+      three,
+    ) refl

@@ -98,9 +98,11 @@ module _ (v lower upper : Value) where
 
     module _ {high : Order} (u : gives high ≡ compareOf v upper) where
       pub clamp-never : (f : Refusal) → refusalOf f ≡ compareOf lower upper → refusalOf f ≡ clampOf v lower upper
-      clamp-never f h = absurd (true≢false (sym (refused-kinds lower upper f h .0) ∙ same-kinds v lower upper (given-kinds v lower l .0) (given-kinds v upper u .0)))
+      clamp-never f h = absurd
+          (true≢false (sym (refused-kinds lower upper f h .0) ∙ same-kinds v lower upper (given-kinds v lower l .0) (given-kinds v upper u .0)))
 
-      pub clamp-clamped : {bounds : Order} {r : Outcome Value} → gives bounds ≡ compareOf lower upper → r ≡ clampedBy bounds low high v lower upper → r ≡ clampOf v lower upper
+      pub clamp-clamped : {bounds : Order} {r : Outcome Value} → gives bounds ≡ compareOf lower upper
+          → r ≡ clampedBy bounds low high v lower upper → r ≡ clampOf v lower upper
       unfolding clampOf clampedBy
       clamp-clamped w h =
           let p = given-kinds v lower l in

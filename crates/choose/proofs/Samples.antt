@@ -38,12 +38,14 @@ module _ (lower upper : Float) (hl : T (fits binary32 lower)) (hu : T (fits bina
   left false b h = refl
 
   lower-number : le lower upper ≡ true → isNan lower ≡ false
-  lower-number h = left (isNan lower) (isNan upper) (sym (unordered-nan binary32 lower upper hl hu) ∙ ordered (sampleOrder lower upper) (sym (le-is binary32 lower upper hl hu) ∙ h))
+  lower-number h = left (isNan lower) (isNan upper)
+      (sym (unordered-nan binary32 lower upper hl hu) ∙ ordered (sampleOrder lower upper) (sym (le-is binary32 lower upper hl hu) ∙ h))
 
 -- ---- one sample
 
 module _ (range : Range) (x : Float) (hl : T (fits binary32 (range .lower))) (hu : T (fits binary32 (range .upper))) (hx : T (fits binary32 x)) where
-  by-orders : clampedBy (sampleOrder (range .lower) (range .upper)) (sampleOrder x (range .lower)) (sampleOrder x (range .upper)) x (range .lower) (range .upper) ≡ sampleOf range x
+  by-orders : clampedBy (sampleOrder (range .lower) (range .upper)) (sampleOrder x (range .lower)) (sampleOrder x (range .upper))
+      x (range .lower) (range .upper) ≡ sampleOf range x
   unfolding clampedBy sampleOf
   by-orders = refl
 
@@ -58,7 +60,8 @@ module _ (range : Range) (x : Float) (hl : T (fits binary32 (range .lower))) (hu
     unordered = unordered-nan binary32 x (range .lower) hx hl
 
     pub sample-nan : ne x x ≡ true → refuses 8 0 ≡ sampleOf range x
-    sample-nan h = clamped-nan x (range .lower) (range .upper) _ _ _ in-order (unordered ∙ ap (λ (t : Bool). t || isNan (range .lower)) (differs-nan x h)) ∙ by-orders
+    sample-nan h = clamped-nan x (range .lower) (range .upper) _ _ _ in-order
+        (unordered ∙ ap (λ (t : Bool). t || isNan (range .lower)) (differs-nan x h)) ∙ by-orders
 
     module _ (n : ne x x ≡ false) where
       number : isUnordered (sampleOrder x (range .lower)) ≡ false

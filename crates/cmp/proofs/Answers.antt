@@ -49,10 +49,12 @@ module _ {a a' b b' : Value} (q : a ≡ a') (u : b ≡ b') (k : kindOf a' ≡ ki
   unfolding totalOf
   total-given h = simp (alike q u k) (ap gives (h ∙ sym (cc (q, u))))
 
-  pub compare-integers : (y z : ℤ) {o : Order} → exactOf a' ≡ times unit (wholeOf y) → exactOf b' ≡ times unit (wholeOf z) → o ≡ orderZ y z → gives o ≡ compareOf a b
+  pub compare-integers : (y z : ℤ) {o : Order} → exactOf a' ≡ times unit (wholeOf y) → exactOf b' ≡ times unit (wholeOf z)
+      → o ≡ orderZ y z → gives o ≡ compareOf a b
   compare-integers y z v w h = compare-given (h ∙ integers-order y z ∙ sym (cc (v, w)))
 
-  pub compare-floats : (f : Format) (m n : ℕ) {o : Order} → exactOf a' ≡ times (stepOf f) (patternOf (fractionOf f) (exponentOf f) m) → exactOf b' ≡ times (stepOf f) (patternOf (fractionOf f) (exponentOf f) n)
+  pub compare-floats : (f : Format) (m n : ℕ) {o : Order}
+      → exactOf a' ≡ times (stepOf f) (patternOf (fractionOf f) (exponentOf f) m) → exactOf b' ≡ times (stepOf f) (patternOf (fractionOf f) (exponentOf f) n)
       → {i j : ℕ} → o ≡ patterns.compareOf (fractionOf f) (exponentOf f) i j → i ≡ m → j ≡ n → gives o ≡ compareOf a b
   compare-floats f m n v w {i} {j} h p q =
       let same : patterns.compareOf (fractionOf f) (exponentOf f) i j ≡ patterns.compareOf (fractionOf f) (exponentOf f) m n = cc (p, q) in
@@ -80,7 +82,8 @@ total-integers a b o = integers-agree a b (by-keys (λ k. isInteger (formOf k)) 
 -- ---- a test of what was compared
 
 module _ (less equal greater unordered : Bool) {c : Compared} where
-  pub tested-order : {o p : Order} → c ≡ compared.Is o → o ≡ p → gives (answer less equal greater unordered p) ≡ mapped (answer less equal greater unordered) (comparedOutcome c)
+  pub tested-order : {o p : Order} → c ≡ compared.Is o → o ≡ p
+      → gives (answer less equal greater unordered p) ≡ mapped (answer less equal greater unordered) (comparedOutcome c)
   tested-order q u = sym (cc (q, u))
 
   pub tested-refusal : {f : Refusal} → c ≡ compared.Refused f → refusalOf f ≡ mapped (answer less equal greater unordered) (comparedOutcome c)

@@ -33,7 +33,8 @@ integers-order y z = sym (times-order unit unit-pos (wholeOf y) (wholeOf z) ∙ 
 -- two patterns of one format
 pub patterns-order : (f : Format) (a b : ℕ)
     → patterns.compareOf (fractionOf f) (exponentOf f) a b
-    ≡ orderOf (float-number.numberOf (times (stepOf f) (patternOf (fractionOf f) (exponentOf f) a))) (float-number.numberOf (times (stepOf f) (patternOf (fractionOf f) (exponentOf f) b)))
+    ≡ orderOf (float-number.numberOf (times (stepOf f) (patternOf (fractionOf f) (exponentOf f) a)))
+    (float-number.numberOf (times (stepOf f) (patternOf (fractionOf f) (exponentOf f) b)))
 unfolding patterns.compareOf
 patterns-order f a b = sym (times-order (stepOf f) (step-pos f) (patternOf (fractionOf f) (exponentOf f) a) (patternOf (fractionOf f) (exponentOf f) b))
 

@@ -43,5 +43,6 @@ order-tag Equal = refl
 order-tag Greater = refl
 order-tag Unordered = refl
 
-pub order-keys : (test : Order → Bool) (j : ℕ) (js : List ℕ) (o : Order) → OneOf (j ∷ js) (tagOf the-type o) → T (all (λ n. test (orderAt n)) j js) → test o ≡ true
+pub order-keys : (test : Order → Bool) (j : ℕ) (js : List ℕ) (o : Order) → OneOf (j ∷ js) (tagOf the-type o)
+    → T (all (λ n. test (orderAt n)) j js) → test o ≡ true
 order-keys test j js o k t = is-true _ (subst (λ (p : Order). T (test p)) (order-tag o) (all-keys (λ n. test (orderAt n)) j js _ t k))

@@ -25,7 +25,8 @@ use Rattle.value.specs.Outcome.{gives}
 use Rattle.value.specs.Rules.{chain}
 use Rattle.value.proofs.Units.{unit-pos}
 use Rattle.value.proofs.Outcomes.{refuse-passes}
-use Rattle.convert.specs.Convert.{intoRules, isInfinite, hasFraction, outside, outOfRange, notHeld, heldIn, patternFor, signFor, magnitudeFor, absFor, integerFor}
+use Rattle.convert.specs.Convert.{intoRules, isInfinite, hasFraction, outside, outOfRange, notHeld, heldIn, patternFor, signFor}
+use Rattle.convert.specs.Convert.{magnitudeFor, absFor, integerFor}
 use Rattle.convert.proofs.Encode.{held-of}
 use Rattle.convert.proofs.Patterns.{two-or-more, inf-range, made-small, encode-below, finite-made, infinite-made}
 
@@ -80,7 +81,8 @@ whole-part m h = let z : m % unit ≡ 0 = eqb-true _ _ (not-false _ (sym (and-tr
 
 -- ---- accepted: the made value has the number
 
-made-unsigned : (k : ℕ) (s : Bool) (m : ℕ) → m / unit * unit ≡ m → outOfRange (unsigned k) (finite s m) ≡ false → number (pos (m / unit * unit)) ≡ numberOf (finite s m)
+made-unsigned : (k : ℕ) (s : Bool) (m : ℕ) → m / unit * unit ≡ m → outOfRange (unsigned k) (finite s m) ≡ false
+    → number (pos (m / unit * unit)) ≡ numberOf (finite s m)
 made-unsigned k false m w h = ap (λ (n : ℕ). number (pos n)) w
 made-unsigned k true m w h =
     let l : m / unit ≤ 0 = ltb-false _ _ h in
@@ -139,7 +141,8 @@ module _ (form : Form) (s : Bool) (m : ℕ) where
 whole-units : (m n : ℕ) → m ≡ n * unit → m / unit ≡ n
 whole-units m n q = ap (λ (x : ℕ). x / unit) q ∙ mul-div-cancel n unit-pos
 
-inside-unsigned : (k : ℕ) (s : Bool) (m n : ℕ) → n < 2 ^ k → number (pos (n * unit)) ≡ numberOf (finite s m) → m ≡ n * unit → outOfRange (unsigned k) (finite s m) ≡ false
+inside-unsigned : (k : ℕ) (s : Bool) (m n : ℕ) → n < 2 ^ k → number (pos (n * unit)) ≡ numberOf (finite s m) → m ≡ n * unit
+    → outOfRange (unsigned k) (finite s m) ≡ false
 inside-unsigned k false m n l h q = let w = whole-units m n q in le-ltb (2 ^ k - 1) (m / unit) (omega arith)
 inside-unsigned k true m n l h q =
     let z : m ≡ 0 = negated m (n * unit) cc in
@@ -164,7 +167,8 @@ whole-signed : (z : ℤ) (u : ℕ) → numberOf (times u (wholeOf z)) ≡ number
 whole-signed (pos n) u = refl
 whole-signed (negsuc n) u = refl
 
-inside-signed : (half : ℕ) (z : ℤ) (s : Bool) (m : ℕ) → mag z < half → number (signedOf (isNegative z) (natAbs z * unit)) ≡ numberOf (finite s m) → m ≡ natAbs z * unit
+inside-signed : (half : ℕ) (z : ℤ) (s : Bool) (m : ℕ) → mag z < half
+    → number (signedOf (isNegative z) (natAbs z * unit)) ≡ numberOf (finite s m) → m ≡ natAbs z * unit
     → outside half (half - 1) s (m / unit) ≡ false
 inside-signed half (pos n) false m l h q = let w = whole-units m n q in le-ltb (half - 1) (m / unit) (omega arith)
 inside-signed half (pos n) true m l h q = let w = whole-units m n q in le-ltb half (m / unit) (omega arith)
@@ -180,30 +184,44 @@ accepts-signed k z (infinite t) l h = only-finite _ t (inr (sym (whole-signed z 
 accepts-signed k z (finite s m) l h =
     let g = sym (whole-signed z unit) ∙ h in
     let q : m ≡ natAbs z * unit = sym (signed-mag s m (signedOf (isNegative z) (natAbs z * unit)) g) ∙ abs-signed (isNegative z) (natAbs z * unit) in
-    record { some-number = refl; no-infinity = refl; no-fraction = no-fraction-in (signed k) s m (natAbs z) q; in-range = inside-signed (2 ^ (k - 1)) z s m l g q; held = refl }
+    record {
+      some-number = refl;
+      no-infinity = refl;
+      no-fraction = no-fraction-in (signed k) s m (natAbs z) q;
+      in-range =
+          inside-signed (2 ^ (k - 1)) z s m l g q;
+      held = refl;
+    }
 
 -- the magnitude is that of the abs of a finite pattern
 finite-magnitude : (f : Format) (c : ℕ) (s : Bool) (m : ℕ) → numberOf (times (stepOf f) (patternOf (fractionOf f) (exponentOf f) c)) ≡ numberOf (finite s m)
-    → (absOf (fractionOf f) (exponentOf f) c < infOf (fractionOf f) (exponentOf f)) × (m ≡ magOf (fractionOf f) (absOf (fractionOf f) (exponentOf f) c) * stepOf f)
+    → (absOf (fractionOf f) (exponentOf f) c < infOf (fractionOf f) (exponentOf f))
+    × (m ≡ magOf (fractionOf f) (absOf (fractionOf f) (exponentOf f) c) * stepOf f)
 finite-magnitude f c s m h = elim (three-ways (absOf (fractionOf f) (exponentOf f) c) (infOf (fractionOf f) (exponentOf f))) [
   | inl l ↦
       let n = magOf (fractionOf f) (absOf (fractionOf f) (exponentOf f) c) * stepOf f in
       let t = negativeOf (fractionOf f) (exponentOf f) c in
-      let g : number (signedOf t n) ≡ numberOf (finite s m) = ap (λ (x : Exact). numberOf (times (stepOf f) x)) (sym (pattern-finite (fractionOf f) (exponentOf f) c l)) ∙ h in
+      let g : number (signedOf t n) ≡ numberOf (finite s m) =
+      ap (λ (x : Exact). numberOf (times (stepOf f) x)) (sym (pattern-finite (fractionOf f) (exponentOf f) c l)) ∙ h in
       (l, sym (signed-mag s m (signedOf t n) g) ∙ abs-signed t n)
-  | inr (inl e) ↦ only-finite (signedOf s m) (negativeOf (fractionOf f) (exponentOf f) c) (inr (sym h ∙ ap (λ (x : Exact). numberOf (times (stepOf f) x)) (pattern-infinite (fractionOf f) (exponentOf f) c e)))
-  | inr (inr g) ↦ only-finite (signedOf s m) true (inl (sym h ∙ ap (λ (x : Exact). numberOf (times (stepOf f) x)) (pattern-nan (fractionOf f) (exponentOf f) c g)))
+  | inr (inl e) ↦ only-finite (signedOf s m) (negativeOf (fractionOf f) (exponentOf f) c)
+      (inr (sym h ∙ ap (λ (x : Exact). numberOf (times (stepOf f) x)) (pattern-infinite (fractionOf f) (exponentOf f) c e)))
+  | inr (inr g) ↦ only-finite (signedOf s m) true
+      (inl (sym h ∙ ap (λ (x : Exact). numberOf (times (stepOf f) x)) (pattern-nan (fractionOf f) (exponentOf f) c g)))
 ]
 
-pub accepts-float : (f : Format) (c : ℕ) (x : Exact) → isNone x ≡ false → numberOf (times (stepOf f) (patternOf (fractionOf f) (exponentOf f) c)) ≡ numberOf x → Accepted (floating f) x
+pub accepts-float : (f : Format) (c : ℕ) (x : Exact) → isNone x ≡ false
+    → numberOf (times (stepOf f) (patternOf (fractionOf f) (exponentOf f) c)) ≡ numberOf x → Accepted (floating f) x
 accepts-float f c notNumber t h = absurd (true≢false t)
 accepts-float f c (infinite s) t h = record { some-number = refl; no-infinity = refl; no-fraction = refl; in-range = refl; held = refl }
 accepts-float f c (finite s m) t h =
     let x = absOf (fractionOf f) (exponentOf f) c in
     let g = finite-magnitude f c s m h in
     let top : magOf (fractionOf f) x ≤ largestOf (fractionOf f) (exponentOf f) =
-    subst (λ (n : ℕ). magOf (fractionOf f) x ≤ n) (mag-largest (fractionOf f) (exponentOf f) (two-or-more f)) (mag-grows (fractionOf f) x (infOf (fractionOf f) (exponentOf f) - 1) (omega (arith, g .0))) in
-    let b : m ≤ largestOf (fractionOf f) (exponentOf f) * stepOf f = subst (λ (n : ℕ). n ≤ largestOf (fractionOf f) (exponentOf f) * stepOf f) (sym (g .1)) (mul-le-mul-right (stepOf f) top) in
+    subst (λ (n : ℕ). magOf (fractionOf f) x ≤ n) (mag-largest (fractionOf f) (exponentOf f) (two-or-more f))
+    (mag-grows (fractionOf f) x (infOf (fractionOf f) (exponentOf f) - 1) (omega (arith, g .0))) in
+    let b : m ≤ largestOf (fractionOf f) (exponentOf f) * stepOf f =
+    subst (λ (n : ℕ). n ≤ largestOf (fractionOf f) (exponentOf f) * stepOf f) (sym (g .1)) (mul-le-mul-right (stepOf f) top) in
     record {
       some-number = refl;
       no-infinity = refl;

@@ -2,7 +2,9 @@
 use mathlib.Core.Path.{_≡_, sym, _∙_, ap, subst}
 use mathlib.Core.Bool.{true, false}
 use Prim.Native.Nat.{ℕ, zero, suc, _+_, _-_, _*_, _/_, _%_, _^_, _≤_, _<_}
-use native.Mathlib.Nat.{lt-of-lt-of-le, lt-of-le-of-lt, lt-of-not-le, mul-le-mul-right, mul-lt-mul-of-pos-right, mul-assoc, mul-pos, mul-mod-left, mul-div-cancel, mul-div-mul-right, mod-eq-of-lt, div-eq-of-lt, mod-one, one-mul, zero-mul, add-zero, pow-suc, suc-add, sub-add-cancel}
+use native.Mathlib.Nat.{lt-of-lt-of-le, lt-of-le-of-lt, lt-of-not-le, mul-le-mul-right, mul-lt-mul-of-pos-right, mul-assoc, mul-pos}
+use native.Mathlib.Nat.{mul-mod-left, mul-div-cancel, mul-div-mul-right, mod-eq-of-lt, div-eq-of-lt, mod-one, one-mul, zero-mul, add-zero}
+use native.Mathlib.Nat.{pow-suc, suc-add, sub-add-cancel}
 use native.Mathlib.Omega.{arith}
 use borrow.Author.Tests.{ne-eqb}
 use lib.Arith.{mod-mul}
@@ -58,7 +60,8 @@ fraction-found n (suc l) h o = ne-eqb _ _ (λ (e : n % 2 ^ suc l ≡ 0). omega (
 
 zero-scale : (a : ℕ) {c : ℕ} → 0 < c → eqb (a * c) 0 ≡ eqb a 0
 zero-scale zero {c} h = ap (λ (n : ℕ). eqb n 0) (zero-mul c)
-zero-scale (suc a) {c} h = let p : 0 < suc a = omega arith in ne-eqb (suc a * c) 0 (λ e. let k = mul-pos p h in omega arith) ∙ sym (ne-eqb (suc a) 0 (λ e. omega arith))
+zero-scale (suc a) {c} h = let p : 0 < suc a = omega arith in
+    ne-eqb (suc a * c) 0 (λ e. let k = mul-pos p h in omega arith) ∙ sym (ne-eqb (suc a) 0 (λ e. omega arith))
 
 pub fraction-passed : (n l : ℕ) → 0 < l → (n % 2 ≡ 1 → ⊥) → eqb (n / 2 % 2 ^ (l - 1)) 0 ≡ eqb (n % 2 ^ l) 0
 fraction-passed n zero h o = absurd (omega arith)

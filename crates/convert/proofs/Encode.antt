@@ -3,7 +3,9 @@ use mathlib.Core.Path.{_≡_, sym, _∙_, ap, subst}
 use mathlib.Core.Bool.{true}
 use mathlib.Core.Logic.{inl, inr}
 use Prim.Native.Nat.{ℕ, zero, suc, _+_, _-_, _*_, _/_, _%_, _^_, _≤_, _<_}
-use native.Mathlib.Nat.{lt-of-lt-of-le, le-div-iff-mul-le, div-lt-iff-lt-mul, mul-mod-left, mod-one, mul-le-mul-right, mul-lt-mul-of-pos-right, mul-div-cancel, div-add-mod', mod-lt, div-one, zero-mul, zero-add, pow-suc, suc-mul, suc-add}
+use native.Mathlib.Nat.{lt-of-lt-of-le, le-div-iff-mul-le, div-lt-iff-lt-mul, mul-mod-left, mod-one, mul-le-mul-right}
+use native.Mathlib.Nat.{mul-lt-mul-of-pos-right, mul-div-cancel, div-add-mod', mod-lt, div-one, zero-mul, zero-add, pow-suc, suc-mul}
+use native.Mathlib.Nat.{suc-add}
 use native.Mathlib.Omega.{arith}
 use borrow.Author.Tests.{eq-eqb, eqb-true}
 use lib.Pow.{pow-pos, pow-add, pow-mono, high, low}

@@ -29,7 +29,8 @@ use Rattle.value.proofs.MadeValues.{low-bits}
 use Rattle.value.proofs.TwosComplement.{from-low, from-high, from-twos}
 use Rattle.convert.specs.Convert.{magnitudeFor, integerFor, patternFor, intoRules, madeIn, convertOf}
 use Rattle.convert.specs.Inner.{intoOf}
-use Rattle.convert.proofs.Accepted.{Accepted, rules-accept, rules-give, exactFor, made-number, made-float, unsigned-fits, signed-fits, pattern-small, accepts-unsigned, accepts-signed, accepts-float}
+use Rattle.convert.proofs.Accepted.{Accepted, rules-accept, rules-give, exactFor, made-number, made-float, unsigned-fits}
+use Rattle.convert.proofs.Accepted.{signed-fits, pattern-small, accepts-unsigned, accepts-signed, accepts-float}
 
 -- ---- the made value
 
@@ -50,7 +51,8 @@ sign-top : (f : Format) → 2 * signOf (fractionOf f) (exponentOf f) ≡ 2 * top
 sign-top binary32 = refl
 sign-top binary64 = refl
 
-float-bits : (f : Format) (x : Exact) → Accepted (floating f) x → floatBits f (ofBits f (patternFor f x)) (wordFor (fractionOf f) (exponentOf f) (patternFor f x)) ≡ patternFor f x
+float-bits : (f : Format) (x : Exact) → Accepted (floating f) x
+    → floatBits f (ofBits f (patternFor f x)) (wordFor (fractionOf f) (exponentOf f) (patternFor f x)) ≡ patternFor f x
 float-bits f x a = bits-pattern f (patternFor f x) (subst (λ (n : ℕ). patternFor f x < n) (sign-top f) (pattern-small f x a))
 
 pub made-exact : (to : Kind) (x : Exact) → Accepted (formOf to) x → exactOf (madeIn to x) ≡ exactFor (formOf to) x
@@ -78,7 +80,8 @@ integer-of : (half : ℕ) (z : ℤ) → mag z < half → z ≡ fromTwos half (tw
 integer-of half z h = sym (ap (fromTwos half) (mod-eq-of-lt (twos-fits half z h)) ∙ from-twos half z h)
 
 float-of : (f : Format) (x : Exact) → Accepted (floating f) x
-    → patternFor f x ≡ floatBits f (ofBits f (patternFor f x)) (wordFor (fractionOf f) (exponentOf f) (patternFor f x)) % (2 * signOf (fractionOf f) (exponentOf f))
+    → patternFor f x ≡ floatBits f (ofBits f (patternFor f x))
+    (wordFor (fractionOf f) (exponentOf f) (patternFor f x)) % (2 * signOf (fractionOf f) (exponentOf f))
 float-of f x a = sym (ap (λ (n : ℕ). n % (2 * signOf (fractionOf f) (exponentOf f))) (float-bits f x a) ∙ mod-eq-of-lt (pattern-small f x a))
 
 made-of-bits : (to : Kind) (x : Exact) → Accepted (formOf to) x → madeIn to x ≡ valueOf to (bitsOf (madeIn to x))
@@ -182,4 +185,7 @@ module _ (v : Value) (to : Kind) (other : kindNumber (kindOf v) ≡ kindNumber t
   pub kept : (f : Format) → formOf to ≡ floating f → (w : Value) → convertOf v to ≡ gives w → exactOf w ≡ exactOf v
   kept f q w h =
       let a = into-accepts to (exactOf v) w (sym (other-kind v to other) ∙ h) in
-      ap exactOf (sym (a .1)) ∙ made-exact to (exactOf v) (a .0) ∙ ap (λ (g : Form). exactFor g (exactOf v)) q ∙ made-float f (exactOf v) (subst (λ (g : Form). Accepted g (exactOf v)) q (a .0))
+      ap exactOf (sym (a .1))
+      ∙ made-exact to (exactOf v) (a .0)
+      ∙ ap (λ (g : Form). exactFor g (exactOf v)) q
+      ∙ made-float f (exactOf v) (subst (λ (g : Form). Accepted g (exactOf v)) q (a .0))

@@ -4,7 +4,9 @@ use mathlib.Core.Path.{_≡_, refl, sym, _∙_, ap, subst}
 use mathlib.Core.Bool.{Bool, true, false}
 use mathlib.Core.Logic.{_⊎_, inl, inr}
 use Prim.Native.Nat.{ℕ, zero, suc, _+_, _-_, _*_, _/_, _%_, _^_, _≤_, _<_}
-use native.Mathlib.Nat.{mul-le-mul, mul-assoc, mul-comm, zero-mul, zero-div, lt-of-lt-of-le, le-of-lt, le-of-eq, le-trans, le-div-iff-mul-le, div-lt-iff-lt-mul, div-eq-of-lt, div-add-mod', mod-lt, mod-eq-of-lt, mul-div-cancel, suc-mul, add-zero, pow-suc}
+use native.Mathlib.Nat.{mul-le-mul, mul-assoc, mul-comm, zero-mul, zero-div, lt-of-lt-of-le, le-of-lt, le-of-eq, le-trans}
+use native.Mathlib.Nat.{le-div-iff-mul-le, div-lt-iff-lt-mul, div-eq-of-lt, div-add-mod', mod-lt, mod-eq-of-lt, mul-div-cancel, suc-mul}
+use native.Mathlib.Nat.{add-zero, pow-suc}
 use native.Mathlib.Omega.{arith}
 use borrow.Author.Tests.{eq-eqb, eqb-true, lt-ltb, le-ltb}
 use lib.Arith.{mod-mul}
@@ -91,12 +93,15 @@ module _ (p c S k : ℕ) (e : k ≡ size S - suc p - c) where
 
     -- a quotient and a place that the format has
     within : (q d : ℕ) → S ≤ q * 2 ^ d → q ≤ 2 ^ suc p - 1 → d ≤ last + c → S ≤ (2 ^ suc p - 1) * 2 ^ last * 2 ^ c
-    within q d h i j = subst (λ (n : ℕ). S ≤ n) (sym top-is) (le-trans h (mul-le-mul {n₁ = q} {m₁ = 2 ^ d} {n₂ = 2 ^ suc p - 1} {m₂ = 2 ^ (last + c)} i (pow-mono j)))
+    within q d h i j = subst (λ (n : ℕ). S ≤ n) (sym top-is)
+        (le-trans h (mul-le-mul {n₁ = q} {m₁ = 2 ^ d} {n₂ = 2 ^ suc p - 1} {m₂ = 2 ^ (last + c)} i (pow-mono j)))
 
     pub beyond : last < k → (2 ^ suc p - 1) * 2 ^ last * 2 ^ c < S
     beyond h =
         let r : 2 ^ (suc p + (last + c)) ≤ S = size-reaches S (suc p + (last + c)) (omega arith) in
-        subst (λ (n : ℕ). n < S) (sym top-is) (lt-of-lt-of-le (less-one (2 ^ suc p) (2 ^ (last + c)) (pow-pos (suc p)) (pow-pos (last + c))) (subst (λ (n : ℕ). n ≤ S) (pow-add 2 (suc p) (last + c)) r))
+        subst (λ (n : ℕ). n < S) (sym top-is)
+        (lt-of-lt-of-le (less-one (2 ^ suc p) (2 ^ (last + c)) (pow-pos (suc p)) (pow-pos (last + c)))
+        (subst (λ (n : ℕ). n ≤ S) (pow-add 2 (suc p) (last + c)) r))
       where
         less-one : (q a : ℕ) → 0 < q → 0 < a → (q - 1) * a < q * a
         less-one zero a h k = absurd (omega arith)
@@ -108,7 +113,11 @@ module _ (p c S k : ℕ) (e : k ≡ size S - suc p - c) where
     -- a lower exponent, or leading digits that aren't all ones
     near-within : k ≤ last → (k < last) ⊎ (S / 2 ^ (k + c) < 2 ^ suc p - 1) → S ≤ (2 ^ suc p - 1) * 2 ^ last * 2 ^ c
     near-within h (inl w) =
-        let half : S < 2 ^ p * 2 ^ suc (k + c) = subst (λ (n : ℕ). S < n) (ap (λ (n : ℕ). n * 2 ^ (k + c)) (pow-suc 2 p) ∙ mul-assoc (2 ^ p) 2 (2 ^ (k + c)) ∙ ap (λ (n : ℕ). 2 ^ p * n) (mul-comm 2 (2 ^ (k + c)) ∙ sym (pow-suc 2 (k + c)))) below-next in
+        let half : S < 2 ^ p * 2 ^ suc (k + c) =
+        subst (λ (n : ℕ). S < n)
+        (ap (λ (n : ℕ). n * 2 ^ (k + c)) (pow-suc 2 p)
+        ∙ mul-assoc (2 ^ p) 2 (2 ^ (k + c))
+        ∙ ap (λ (n : ℕ). 2 ^ p * n) (mul-comm 2 (2 ^ (k + c)) ∙ sym (pow-suc 2 (k + c)))) below-next in
         let t : 2 ^ suc p ≡ 2 ^ p * 2 = pow-suc 2 p in
         let z : 0 < 2 ^ p = pow-pos p in
         within (2 ^ p) (suc (k + c)) (le-of-lt half) (omega arith) (omega arith)
@@ -139,7 +148,8 @@ module _ (p c S k : ℕ) (e : k ≡ size S - suc p - c) where
       pub held-over : k ≡ last → (S % 2 ^ (k + c) ≡ 0 → ⊥) → S / 2 ^ (k + c) ≡ 2 ^ suc p - 1 → refuses 4 0 ≡ floatAt p (2 ^ c) last s S
       held-over h d q =
           let l : S / 2 ^ (k + c) * 2 ^ (k + c) < S = omega (arith, split) in
-          let t : S / 2 ^ (k + c) * 2 ^ (k + c) ≡ (2 ^ suc p - 1) * 2 ^ last * 2 ^ c = ap (λ (n : ℕ). n * 2 ^ (k + c)) q ∙ ap (λ (n : ℕ). (2 ^ suc p - 1) * 2 ^ (n + c)) h ∙ sym top-is in
+          let t : S / 2 ^ (k + c) * 2 ^ (k + c) ≡ (2 ^ suc p - 1) * 2 ^ last * 2 ^ c =
+          ap (λ (n : ℕ). n * 2 ^ (k + c)) q ∙ ap (λ (n : ℕ). (2 ^ suc p - 1) * 2 ^ (n + c)) h ∙ sym top-is in
           simp (lt-ltb _ _ (subst (λ (n : ℕ). n < S) t l))
 
 -- ---- as the code has it
@@ -156,7 +166,8 @@ pub dropped-is : (p c m g z k : ℕ) → 0 < m → z ≡ size m → k ≡ z + g 
 dropped-is p c m g z k h e q = let w : size (m * 2 ^ g) ≡ size m + g = size-scale m g h in omega arith
 
 pub all-ones : (p : ℕ) → p ≤ 52 → 2 * 2 ^ p % 2 ^ 64 ≡ 2 ^ suc p
-all-ones p h = mod-eq-of-lt (subst (λ (x : ℕ). x < 2 ^ 64) (pow-suc 2 p ∙ mul-comm (2 ^ p) 2) (pow-lt {i = suc p} {j = 64} (omega arith))) ∙ mul-comm 2 (2 ^ p) ∙ sym (pow-suc 2 p)
+all-ones p h = mod-eq-of-lt
+    (subst (λ (x : ℕ). x < 2 ^ 64) (pow-suc 2 p ∙ mul-comm (2 ^ p) 2) (pow-lt {i = suc p} {j = 64} (omega arith))) ∙ mul-comm 2 (2 ^ p) ∙ sym (pow-suc 2 p)
 
 pub field-small : (k p last : ℕ) → k ≤ last → last ≤ 2047 → p ≤ 52 → k * 2 ^ p ≤ 2047 * 2 ^ 52
 field-small k p last h j i = mul-le-mul {n₁ = k} {m₁ = 2 ^ p} {n₂ = 2047} {m₂ = 2 ^ 52} (omega arith) (pow-mono {i = p} {j = 52} i)

@@ -28,8 +28,10 @@ module _ (v : Value) (to : Kind) (other : kindNumber (kindOf v) ≡ kindNumber t
   unfolding intoOf
   infinity-refused s q t = other-kind v to other ∙ simp (q, t)
 
-  pub infinity-passes : (s : Bool) (f : Format) → exactOf v ≡ infinite s → formOf to ≡ floating f → (w : Value) × (convertOf v to ≡ gives w) × (exactOf w ≡ infinite s)
+  pub infinity-passes : (s : Bool) (f : Format) → exactOf v ≡ infinite s → formOf to ≡ floating f
+      → (w : Value) × (convertOf v to ≡ gives w) × (exactOf w ≡ infinite s)
   infinity-passes s f q t =
       let a : Accepted (floating f) (infinite s) = record { some-number = refl; no-infinity = refl; no-fraction = refl; in-range = refl; held = refl } in
-      let g = other-kind v to other ∙ into-gives to (exactOf v) (subst (Accepted (formOf to)) (sym q) (subst (λ (form : Form). Accepted form (infinite s)) (sym t) a)) in
+      let g = other-kind v to other
+      ∙ into-gives to (exactOf v) (subst (Accepted (formOf to)) (sym q) (subst (λ (form : Form). Accepted form (infinite s)) (sym t) a)) in
       (madeIn to (exactOf v), g, kept v to other f t (madeIn to (exactOf v)) g ∙ q)

@@ -50,14 +50,18 @@ inf-range f =
 -- ---- the made pattern
 
 -- in range and held: the encoded abs is below the infinity's
-pub encode-below : (f : Format) (m : ℕ) → m ≤ largestOf (fractionOf f) (exponentOf f) * stepOf f → heldIn f m ≡ true → encodeOf f m < infOf (fractionOf f) (exponentOf f)
+pub encode-below : (f : Format) (m : ℕ) → m ≤ largestOf (fractionOf f) (exponentOf f) * stepOf f → heldIn f m ≡ true
+    → encodeOf f m < infOf (fractionOf f) (exponentOf f)
 encode-below f m h k = elim (lt-or-ge (encodeOf f m) (infOf (fractionOf f) (exponentOf f))) [
   | inl l ↦ l
   | inr g ↦
       let i = inf-range f .0 in
-      let above : magOf (fractionOf f) (infOf (fractionOf f) (exponentOf f) - 1) < magOf (fractionOf f) (encodeOf f m) = mag-rises (fractionOf f) _ _ (omega arith) in
-      let more : largestOf (fractionOf f) (exponentOf f) < magOf (fractionOf f) (encodeOf f m) = subst (λ (n : ℕ). n < magOf (fractionOf f) (encodeOf f m)) (mag-largest (fractionOf f) (exponentOf f) (two-or-more f)) above in
-      let over : largestOf (fractionOf f) (exponentOf f) * stepOf f < m = subst (λ (n : ℕ). largestOf (fractionOf f) (exponentOf f) * stepOf f < n) (held-has f m k) (mul-lt-mul-of-pos-right more (step-pos f)) in
+      let above : magOf (fractionOf f) (infOf (fractionOf f) (exponentOf f) - 1) < magOf (fractionOf f) (encodeOf f m) =
+      mag-rises (fractionOf f) _ _ (omega arith) in
+      let more : largestOf (fractionOf f) (exponentOf f) < magOf (fractionOf f) (encodeOf f m) =
+      subst (λ (n : ℕ). n < magOf (fractionOf f) (encodeOf f m)) (mag-largest (fractionOf f) (exponentOf f) (two-or-more f)) above in
+      let over : largestOf (fractionOf f) (exponentOf f) * stepOf f < m =
+      subst (λ (n : ℕ). largestOf (fractionOf f) (exponentOf f) * stepOf f < n) (held-has f m k) (mul-lt-mul-of-pos-right more (step-pos f)) in
       absurd (omega arith)
 ]
 
@@ -67,10 +71,12 @@ finite-made f s m h k =
     let b : encodeOf f m < infOf (fractionOf f) (exponentOf f) = encode-below f m h k in
     let l : encodeOf f m < signOf (fractionOf f) (exponentOf f) = omega (arith, inf-range f .1) in
     let a = made-abs f s (encodeOf f m) l in
-    ap (times (stepOf f)) (pattern-finite (fractionOf f) (exponentOf f) (withSign f s (encodeOf f m)) (subst (λ (n : ℕ). n < infOf (fractionOf f) (exponentOf f)) (sym a) b))
+    ap (times (stepOf f))
+    (pattern-finite (fractionOf f) (exponentOf f) (withSign f s (encodeOf f m)) (subst (λ (n : ℕ). n < infOf (fractionOf f) (exponentOf f)) (sym a) b))
     ∙ cc (a, made-sign f s (encodeOf f m) l, held-has f m k)
 
-pub infinite-made : (f : Format) (s : Bool) → times (stepOf f) (patternOf (fractionOf f) (exponentOf f) (withSign f s (infOf (fractionOf f) (exponentOf f)))) ≡ infinite s
+pub infinite-made : (f : Format) (s : Bool)
+    → times (stepOf f) (patternOf (fractionOf f) (exponentOf f) (withSign f s (infOf (fractionOf f) (exponentOf f)))) ≡ infinite s
 infinite-made f s =
     let i = infOf (fractionOf f) (exponentOf f) in
     ap (times (stepOf f)) (pattern-infinite (fractionOf f) (exponentOf f) (withSign f s i) (made-abs f s i (inf-range f .1)))

@@ -34,11 +34,13 @@ numberFor (floating f) x = absFor f x
 
 -- ---- the rules by the cases of the number
 
-whole-rules : {A : Type 0} (t u : Bool) (a : A) → refuseIf t 3 0 (refuseIf u 4 0 (gives a)) ≡ refuseIf (t && true) 3 0 (refuseIf u 4 0 (refuseIf false 5 0 (gives a)))
+whole-rules : {A : Type 0} (t u : Bool) (a : A)
+    → refuseIf t 3 0 (refuseIf u 4 0 (gives a)) ≡ refuseIf (t && true) 3 0 (refuseIf u 4 0 (refuseIf false 5 0 (gives a)))
 whole-rules true u a = refl
 whole-rules false u a = refl
 
-float-rules : {A : Type 0} (t u v : Bool) (a : A) → refuseIf u 4 0 (refuseIf v 5 0 (gives a)) ≡ refuseIf (t && false) 3 0 (refuseIf u 4 0 (refuseIf v 5 0 (gives a)))
+float-rules : {A : Type 0} (t u v : Bool) (a : A)
+    → refuseIf u 4 0 (refuseIf v 5 0 (gives a)) ≡ refuseIf (t && false) 3 0 (refuseIf u 4 0 (refuseIf v 5 0 (gives a)))
 float-rules true u v a = refl
 float-rules false u v a = refl
 
@@ -59,7 +61,8 @@ find-float : (f : Format) (last : ℕ) → last ≡ 2 ^ exponentOf f - 3 → (la
 unfolding patternIn heldIn encodeOf
 find-float f last q i notNumber = refl
 find-float f last q i (infinite s) = ap (λ (n : ℕ). gives (s, n)) i
-find-float f last q i (finite s m) = rw q (float-rules (hasFraction (finite s m)) (ltb (largestOf (fractionOf f) (exponentOf f) * stepOf f) m) (not (heldIn f m)) (s, encodeOf f m))
+find-float f last q i (finite s m) =
+    rw q (float-rules (hasFraction (finite s m)) (ltb (largestOf (fractionOf f) (exponentOf f) * stepOf f) m) (not (heldIn f m)) (s, encodeOf f m))
 
 pub find-rules : (to : Kind) (x : Exact) → findIn to x ≡ chain (intoRules (formOf to) x) (gives (signFor x, numberFor (formOf to) x))
 unfolding stepOf

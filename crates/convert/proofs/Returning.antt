@@ -31,7 +31,8 @@ use Rattle.convert.proofs.Exactly.{none-is, into-accepts, made-exact, o
 
 -- ---- a number with a sign of its zero is one sign and one magnitude
 
-minus-minus : (m n : ℕ) → (finite true m ≡ finite true 0 → ⊥) → (finite true n ≡ finite true 0 → ⊥) → float-number.numberOf (finite true m) ≡ float-number.numberOf (finite true n) → m ≡ n
+minus-minus : (m n : ℕ) → (finite true m ≡ finite true 0 → ⊥) → (finite true n ≡ finite true 0 → ⊥)
+    → float-number.numberOf (finite true m) ≡ float-number.numberOf (finite true n) → m ≡ n
 minus-minus zero n d e h = absurd (d refl)
 minus-minus (suc m) zero d e h = absurd (e refl)
 minus-minus (suc m) (suc n) d e h = cc
@@ -82,7 +83,8 @@ module _ (f : Format) (c : ℕ) where
     | inr g ↦ rw (le-leb _ _ g, abs-set (fractionOf f) (exponentOf f) c g) (omega arith)
   ]
 
-  pub pattern-again : isNone (times (stepOf f) (patternOf (fractionOf f) (exponentOf f) c)) ≡ false → patternFor f (times (stepOf f) (patternOf (fractionOf f) (exponentOf f) c)) ≡ c
+  pub pattern-again : isNone (times (stepOf f) (patternOf (fractionOf f) (exponentOf f) c)) ≡ false
+      → patternFor f (times (stepOf f) (patternOf (fractionOf f) (exponentOf f) c)) ≡ c
   pattern-again t = elim (three-ways (absOf (fractionOf f) (exponentOf f) c) (infOf (fractionOf f) (exponentOf f))) [
     | inl l ↦
         ap (λ (x : Exact). patternFor f (times (stepOf f) x)) (pattern-finite (fractionOf f) (exponentOf f) c l)
@@ -132,7 +134,8 @@ module _ (v : Value) (to : Kind) (other : kindNumber (kindOf v) ≡ kindNumber t
   ]
 
 -- there and back: the same bits
-pub returns-same : (from to : Kind) (b : ℕ) → (kindNumber from ≡ kindNumber to → ⊥) → (isInteger (formOf to) ≡ true → exactOf (valueOf from b) ≡ finite true 0 → ⊥)
+pub returns-same : (from to : Kind) (b : ℕ) → (kindNumber from ≡ kindNumber to → ⊥)
+    → (isInteger (formOf to) ≡ true → exactOf (valueOf from b) ≡ finite true 0 → ⊥)
     → (w : Value) → convertOf (valueOf from b) to ≡ gives w → (u : Value) × (convertOf w from ≡ gives u) × (bitsOf u ≡ bitsOf (valueOf from b))
 returns-same from to b d signless w h =
     let v = valueOf from b in
@@ -140,5 +143,9 @@ returns-same from to b d signless w h =
     let s = sound v to other w h in
     let back : kindNumber (kindOf w) ≡ kindNumber from → ⊥ = λ q. d (sym q ∙ ap kindNumber (s .1)) in
     let some : numberOf w ≡ none → ⊥ = λ q. s .0 (sym (s .3) ∙ q) in
-    let e : exactOf w ≡ exactOf v = arrives v to other signless w h in
-    (madeIn from (exactOf w), complete w from back b some (sym (s .3)), ap (λ (x : Exact). bitsOf (madeIn from x)) e ∙ made-again from b (none-is (exactOf v) (s .0)))
+    let e : exactOf w ≡ exactOf v = arrives v to other signless w h in (
+      madeIn from (exactOf w),
+      complete w from back b some (sym (s .3)),
+      ap (λ (x : Exact). bitsOf (madeIn from x)) e
+          ∙ made-again from b (none-is (exactOf v) (s .0)),
+    )

@@ -70,7 +70,9 @@ module _ (p i : ℕ) (s : Bool) (a c : ℕ) where
       let k = a / 2 ^ p - 1 in
       let q : a / 2 ^ p ≡ suc k = omega arith in
       let w : magAt p (a / 2 ^ p) (a % 2 ^ p) * 2 ^ c ≡ (2 ^ p + a % 2 ^ p) * 2 ^ (k + c) =
-      ap (λ (n : ℕ). magAt p n (a % 2 ^ p) * 2 ^ c) q ∙ mul-assoc (2 ^ p + a % 2 ^ p) (2 ^ k) (2 ^ c) ∙ ap (λ (n : ℕ). (2 ^ p + a % 2 ^ p) * n) (sym (pow-add 2 k c)) in
+      ap (λ (n : ℕ). magAt p n (a % 2 ^ p) * 2 ^ c) q
+      ∙ mul-assoc (2 ^ p + a % 2 ^ p) (2 ^ k) (2 ^ c)
+      ∙ ap (λ (n : ℕ). (2 ^ p + a % 2 ^ p) * n) (sym (pow-add 2 k c)) in
       sym (ap (times (2 ^ c)) (finite-at h d) ∙ ap (finite s) w)
 
 -- the exponent field is small
@@ -78,7 +80,12 @@ pub field-small : (p i a : ℕ) → i ≤ 2047 * 2 ^ p → a ≤ i → (a ≡ i 
 field-small p i a h l d = let b : a < i = omega arith in div-lt-iff-lt-mul {k = 2 ^ p} {x = a} {y = 2047} (pow-pos p) .1 (lt-of-lt-of-le b h)
 
 -- a float's pattern by its sign and abs
-pub taken-pattern : (f : Format) (x : Float) (w : ℕ) {s : Bool} {a b : ℕ} → b ≡ floatBits f x w → s ≡ negativeOf (fractionOf f) (exponentOf f) b → a ≡ absOf (fractionOf f) (exponentOf f) b
+pub taken-pattern : (f : Format) (x : Float) (w : ℕ) {s : Bool} {a b : ℕ} → b ≡ floatBits f x w
+    → s ≡ negativeOf (fractionOf f) (exponentOf f) b → a ≡ absOf (fractionOf f) (exponentOf f) b
     → patternAt (fractionOf f) (infOf (fractionOf f) (exponentOf f)) s a ≡ patternOf (fractionOf f) (exponentOf f) (floatBits f x w)
 unfolding patternOf
-taken-pattern f x w {s} {a} {b} q r t = ap (λ (k : Bool). patternAt (fractionOf f) (infOf (fractionOf f) (exponentOf f)) k a) r ∙ ap (patternAt (fractionOf f) (infOf (fractionOf f) (exponentOf f)) (negativeOf (fractionOf f) (exponentOf f) b)) t ∙ ap (λ (c : ℕ). patternAt (fractionOf f) (infOf (fractionOf f) (exponentOf f)) (negativeOf (fractionOf f) (exponentOf f) c) (absOf (fractionOf f) (exponentOf f) c)) q
+taken-pattern f x w {s} {a} {b} q r t =
+    ap (λ (k : Bool). patternAt (fractionOf f) (infOf (fractionOf f) (exponentOf f)) k a) r
+    ∙ ap (patternAt (fractionOf f) (infOf (fractionOf f) (exponentOf f)) (negativeOf (fractionOf f) (exponentOf f) b)) t
+    ∙ ap (λ (c : ℕ). patternAt (fractionOf f) (infOf (fractionOf f) (exponentOf f)) (negativeOf (fractionOf f) (exponentOf f) c)
+    (absOf (fractionOf f) (exponentOf f) c)) q

@@ -27,8 +27,10 @@ module _ (m g d : ℕ) (z : 0 < m) where
   pub quotient-large : size m ≤ 64 → d + 64 < size m + g → (m * 2 ^ g % 2 ^ d ≡ 0) × (2 ^ 64 ≤ m * 2 ^ g / 2 ^ d)
   quotient-large h l =
       let s : size (m * 2 ^ g) ≡ size m + g = size-scale m g z in
-      let r : 2 ^ (64 + d) ≤ m * 2 ^ g = size-reaches (m * 2 ^ g) (64 + d) (omega arith) in
-      (over-up m g d (omega arith) .0, le-div-iff-mul-le {k = 2 ^ d} {x = 2 ^ 64} {y = m * 2 ^ g} (pow-pos d) .1 (subst (λ (n : ℕ). n ≤ m * 2 ^ g) (pow-add 2 64 d) r))
+      let r : 2 ^ (64 + d) ≤ m * 2 ^ g = size-reaches (m * 2 ^ g) (64 + d) (omega arith) in (
+        over-up m g d (omega arith) .0,
+        le-div-iff-mul-le {k = 2 ^ d} {x = 2 ^ 64} {y = m * 2 ^ g} (pow-pos d) .1 (subst (λ (n : ℕ). n ≤ m * 2 ^ g) (pow-add 2 64 d) r),
+      )
 
   pub quotient-fits : (b : ℕ) → size m + g ≤ d + b → m * 2 ^ g / 2 ^ d < 2 ^ b
   quotient-fits b l =

@@ -45,7 +45,8 @@ step-is binary64 = refl
 size-product : (q j d : ℕ) → q < 2 ^ d → size (q * 2 ^ j) ≤ d + j
 size-product q j d h = size-le (q * 2 ^ j) (d + j) (subst (λ (n : ℕ). q * 2 ^ j < n) (sym (pow-add 2 d j)) (mul-lt-mul-of-pos-right h (pow-pos j)))
 
-module _ (f : Format) (s : Bool) (q j d : ℕ) (few : q < 2 ^ d) (short : d ≤ suc (fractionOf f)) (low : stepBits f ≤ j) (high : d + j ≤ suc (fractionOf f) + (2 ^ exponentOf f - 3) + stepBits f) where
+module _ (f : Format) (s : Bool) (q j d : ℕ) (few : q < 2 ^ d) (short : d ≤ suc (fractionOf f)) (low : stepBits f ≤ j)
+    (high : d + j ≤ suc (fractionOf f) + (2 ^ exponentOf f - 3) + stepBits f) where
   abbrev dropped : ℕ
   dropped = size (q * 2 ^ j) - suc (fractionOf f) - stepBits f
 
@@ -106,8 +107,10 @@ integer-accepted f (negsuc n) k h l = whole-accepted f true (suc n) k h l
 fields-accepted : (s : Bool) (E r : ℕ) → E < 255 → r < 2 ^ 23 → Accepted (floating binary64) (finite s (magAt 23 E r * 2 ^ 925))
 fields-accepted s zero r l h = few-accepted binary64 s r 925 23 h (omega arith) (omega arith) (omega arith)
 fields-accepted s (suc k) r l h =
-    let q : (2 ^ 23 + r) * 2 ^ (k + 925) ≡ (2 ^ 23 + r) * 2 ^ k * 2 ^ 925 = ap (λ (n : ℕ). (2 ^ 23 + r) * n) (pow-add 2 k 925) ∙ sym (mul-assoc (2 ^ 23 + r) (2 ^ k) (2 ^ 925)) in
-    subst (λ (m : ℕ). Accepted (floating binary64) (finite s m)) q (few-accepted binary64 s (2 ^ 23 + r) (k + 925) 24 (omega arith) (omega arith) (omega arith) (omega arith))
+    let q : (2 ^ 23 + r) * 2 ^ (k + 925) ≡ (2 ^ 23 + r) * 2 ^ k * 2 ^ 925 =
+    ap (λ (n : ℕ). (2 ^ 23 + r) * n) (pow-add 2 k 925) ∙ sym (mul-assoc (2 ^ 23 + r) (2 ^ k) (2 ^ 925)) in
+    subst (λ (m : ℕ). Accepted (floating binary64) (finite s m)) q
+    (few-accepted binary64 s (2 ^ 23 + r) (k + 925) 24 (omega arith) (omega arith) (omega arith) (omega arith))
 
 single-accepted : (c : ℕ) → isNone (times (2 ^ 925) (patternOf 23 8 c)) ≡ false → Accepted (floating binary64) (times (2 ^ 925) (patternOf 23 8 c))
 unfolding magOf
@@ -122,7 +125,8 @@ single-accepted c t = elim (three-ways (absOf 23 8 c) (infOf 23 8)) [
   | inr (inr g) ↦ absurd (true≢false (ap (λ (x : Exact). isNone (times (2 ^ 925) x)) (sym (pattern-nan 23 8 c g)) ∙ t))
 ]
 
-float-accepted : (f g : Format) (c : ℕ) → leb (fractionOf f) (fractionOf g) ≡ true → isNone (times (stepOf f) (patternOf (fractionOf f) (exponentOf f) c)) ≡ false
+float-accepted : (f g : Format) (c : ℕ) → leb (fractionOf f) (fractionOf g) ≡ true
+    → isNone (times (stepOf f) (patternOf (fractionOf f) (exponentOf f) c)) ≡ false
     → Accepted (floating g) (times (stepOf f) (patternOf (fractionOf f) (exponentOf f) c))
 unfolding stepOf
 float-accepted binary32 binary32 c h t = accepts-float binary32 c _ t refl
@@ -131,11 +135,14 @@ float-accepted binary64 binary32 c h t = absurd (true≢false (sym h))
 float-accepted binary64 binary64 c h t = accepts-float binary64 c _ t refl
 
 room : (from to : Form) (x : Exact) → Holds from x → widens from to ≡ true → isNone x ≡ false → Accepted to x
-room (unsigned j) (unsigned k) x h w t = subst (Accepted (unsigned k)) (sym (h .2)) (accepts-unsigned k (h .0) _ (lt-of-lt-of-le (h .1) (pow-mono (leb-true j k w))) refl)
-room (unsigned j) (signed k) x h w t = subst (Accepted (signed k)) (sym (h .2)) (accepts-signed k (pos (h .0)) _ (lt-of-lt-of-le (h .1) (pow-mono (leb-true j (k - 1) w))) refl)
+room (unsigned j) (unsigned k) x h w t =
+    subst (Accepted (unsigned k)) (sym (h .2)) (accepts-unsigned k (h .0) _ (lt-of-lt-of-le (h .1) (pow-mono (leb-true j k w))) refl)
+room (unsigned j) (signed k) x h w t =
+    subst (Accepted (signed k)) (sym (h .2)) (accepts-signed k (pos (h .0)) _ (lt-of-lt-of-le (h .1) (pow-mono (leb-true j (k - 1) w))) refl)
 room (unsigned j) (floating f) x h w t = subst (Accepted (floating f)) (sym (h .2)) (whole-accepted f false (h .0) j (h .1) (leb-true _ _ w))
 room (signed j) (unsigned k) x h w t = absurd (true≢false (sym w))
-room (signed j) (signed k) x h w t = subst (Accepted (signed k)) (sym (h .2)) (accepts-signed k (h .0) _ (lt-of-lt-of-le (h .1) (pow-mono (leb-true (j - 1) (k - 1) w))) refl)
+room (signed j) (signed k) x h w t =
+    subst (Accepted (signed k)) (sym (h .2)) (accepts-signed k (h .0) _ (lt-of-lt-of-le (h .1) (pow-mono (leb-true (j - 1) (k - 1) w))) refl)
 room (signed j) (floating f) x h w t =
     let l : j ≤ suc (fractionOf f) = leb-true _ _ w in
     subst (Accepted (floating f)) (sym (h .2)) (integer-accepted f (h .0) (suc (j - 1)) (abs-few (h .0) (j - 1) (h .1)) (omega arith))
@@ -159,7 +166,8 @@ values-hold kind.F32 b = (_, refl)
 values-hold kind.F64 b = (_, refl)
 
 -- a widening conversion refuses nothing but a NaN
-pub widened : (from to : Kind) (b : ℕ) → (kindNumber from ≡ kindNumber to → ⊥) → widens (formOf from) (formOf to) ≡ true → (numberOf (valueOf from b) ≡ none → ⊥)
+pub widened : (from to : Kind) (b : ℕ) → (kindNumber from ≡ kindNumber to → ⊥) → widens (formOf from) (formOf to) ≡ true
+    → (numberOf (valueOf from b) ≡ none → ⊥)
     → (w : Value) × (convertOf (valueOf from b) to ≡ gives w)
 widened from to b d h n =
     let v = valueOf from b in

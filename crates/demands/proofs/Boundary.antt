@@ -26,13 +26,16 @@ use Rattle.sample.specs.Refusals.{bitsTo, leftRules, answerOf}
 use Rattle.demands.specs.Boundary.{AtTheBoundary}
 use Rattle.demands.proofs.Demand1.{row-chain, through}
 
-by-migrate : (from to : Kind) (input : List ℕ) → By (leftRules from input ++ eachOf (λ v. convertRules v to) 0 (bytes.samplesOf from input)) (answerOf from to input)
+by-migrate : (from to : Kind) (input : List ℕ)
+    → By (leftRules from input ++ eachOf (λ v. convertRules v to) 0 (bytes.samplesOf from input)) (answerOf from to input)
 unfolding answerOf bitsTo
 by-migrate from to input = by-same (leftRules from input ++ eachOf (λ v. convertRules v to) 0 (bytes.samplesOf from input)) done
-    (ap (chain (leftRules from input)) (row-chain (bitsTo to) (λ v. convertRules v to) (λ v. bitsOf (convertedTo v to)) (λ v. through bitsOf v to) 0 (bytes.samplesOf from input)))
+    (ap (chain (leftRules from input))
+    (row-chain (bitsTo to) (λ v. convertRules v to) (λ v. bitsOf (convertedTo v to)) (λ v. through bitsOf v to) 0 (bytes.samplesOf from input)))
 
 pub at-the-boundary : AtTheBoundary
-unfolding classifyOf samplePosition compareOf totalOf minOf maxOf clampOf convertOf recordsOrder keyLength recordRead keyExit readExit cmp.compareOf cmp.totalOf choose.minOf choose.maxOf choose.clampOf convert.convertOf «record».compareOf writeOf readOf
+unfolding classifyOf samplePosition compareOf totalOf minOf maxOf clampOf convertOf recordsOrder keyLength recordRead keyExit
+    readExit cmp.compareOf cmp.totalOf choose.minOf choose.maxOf choose.clampOf convert.convertOf «record».compareOf writeOf readOf
 at-the-boundary = record {
   classify = λ s. by-chain _ _;
   position = λ s. by-chain _ _;

@@ -28,7 +28,8 @@ use Rattle.record.proofs.Given.{records-compared}
 use Rattle.row.specs.Convert.{floatOf}
 use Rattle.row.proofs.F32Sample.{same-pattern}
 use Rattle.laws_cmp.specs.Laws.{OneShape, AllEqual}
-use Rattle.laws_cmp.proofs.Choices.{min-by-less, min-by-equal, min-by-greater, max-by-less, max-by-equal, max-by-greater, clamp-below, clamp-above, clamp-within}
+use Rattle.laws_cmp.proofs.Choices.{min-by-less, min-by-equal, min-by-greater, max-by-less, max-by-equal, max-by-greater, clamp-below}
+use Rattle.laws_cmp.proofs.Choices.{clamp-above, clamp-within}
 use Rattle.laws_cmp.proofs.Fields.{equal-every}
 use Rattle.laws_cmp.proofs.Records.{integer-records-linear-order}
 use Rattle.laws_cmp.proofs.RecordChoices.{record-min-less, record-min-equal, record-min-greater, record-max-less, record-max-equal, record-max-greater}
@@ -83,7 +84,9 @@ clamped-mapped : {A B : Type 0} (f : A → B) (bounds low high : Order) (x lower
 unfolding clampedBy
 clamped-mapped f bounds low high x lower upper = go (not (isLessOrEqual bounds)) (isUnordered low) (isLess low) (isGreater high)
   where
-    go : (r s t u : Bool) → mapped f (refuseIf r 6 0 (refuseIf s 8 0 (gives (cond t lower (cond u upper x))))) ≡ refuseIf r 6 0 (refuseIf s 8 0 (gives (cond t (f lower) (cond u (f upper) (f x)))))
+    go : (r s t u : Bool)
+        → mapped f (refuseIf r 6 0 (refuseIf s 8 0 (gives (cond t lower (cond u upper x)))))
+        ≡ refuseIf r 6 0 (refuseIf s 8 0 (gives (cond t (f lower) (cond u (f upper) (f x)))))
     go true s t u = refl
     go false true t u = refl
     go false false true u = refl

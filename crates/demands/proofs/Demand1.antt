@@ -29,7 +29,8 @@ use Rattle.demands.specs.Demand1.{rowRules, rowClampRules, ByItsRules, I
 
 -- ---- rows: the samples' chains one behind the other, each with its index
 
-sample-chain : {B : Type 0} (at : ℕ) (rules : List Rule) (y : B) (rest : Outcome Success) → sampleThen at (chain rules (gives y)) rest ≡ chain (map (placed at) rules) rest
+sample-chain : {B : Type 0} (at : ℕ) (rules : List Rule) (y : B) (rest : Outcome Success)
+    → sampleThen at (chain rules (gives y)) rest ≡ chain (map (placed at) rules) rest
 sample-chain at [] y rest = refl
 sample-chain at (rule n p true ∷ rules) y rest = refl
 sample-chain at (rule n p false ∷ rules) y rest = sample-chain at rules y rest
@@ -76,7 +77,8 @@ by-row-clamp range row = by-same (rowClampRules range row) done (go (not (isLess
 -- ---- all calls
 
 by-its-rules : ByItsRules
-unfolding compareOf totalOf minOf maxOf clampOf rangeOf sampleOf convertOf u8ToU16 u16ToU8 u16ToF32 f32ToU16 «record».compareOf «record».minOf «record».maxOf setOf getOf pushOf shapeOf writeOf readOf
+unfolding compareOf totalOf minOf maxOf clampOf rangeOf sampleOf convertOf u8ToU16 u16ToU8 u16ToF32 f32ToU16 «record».compareOf
+    «record».minOf «record».maxOf setOf getOf pushOf shapeOf writeOf readOf
 by-its-rules = record {
   compare = λ a b. by-chain _ _;
   eq = λ a b. by-mapped isEqual _ _;

@@ -35,7 +35,8 @@ use Rattle.demands.specs.Demand2.{Floats, OfForm, Values}
 -- ---- patterns
 
 -- a comparison by what the two patterns stand for
-by-numbers : (p e a b : ℕ) {x y : Number} → float-number.numberOf (patternOf p e a) ≡ x → float-number.numberOf (patternOf p e b) ≡ y → float-order.compareOf p e a b ≡ orderOf x y
+by-numbers : (p e a b : ℕ) {x y : Number} → float-number.numberOf (patternOf p e a) ≡ x
+    → float-number.numberOf (patternOf p e b) ≡ y → float-order.compareOf p e a b ≡ orderOf x y
 unfolding float-order.compareOf
 by-numbers p e a b h k = cc
 
@@ -72,7 +73,8 @@ of-format binary64 = patterns 52 11 (lit≤ tt)
 
 -- what a value of a float kind stands for, and its position, by its bits
 abbrev ByBits : Format → Value → Type 0
-ByBits f v = (exactOf v ≡ times (stepOf f) (patternOf (fractionOf f) (exponentOf f) (bitsOf v))) × (positionOf v ≡ float-format.positionOf (fractionOf f) (exponentOf f) (bitsOf v))
+ByBits f v = (exactOf v ≡ times (stepOf f) (patternOf (fractionOf f) (exponentOf f) (bitsOf v)))
+    × (positionOf v ≡ float-format.positionOf (fractionOf f) (exponentOf f) (bitsOf v))
 
 by-bits : (f : Format) (v : Value) → OfForm (floating f) v → ByBits f v
 by-bits f (U8 n) q = clash cc
@@ -93,7 +95,8 @@ module _ (f : Format) (a b : Value) (k : OneKind a b) (o : OfForm (floating f) a
   floats-compare : compareOf a b ≡ gives (float-order.compareOf (fractionOf f) (exponentOf f) (bitsOf a) (bitsOf b))
   floats-compare = order-compared a b _ k (cc (by-bits f a o .0, by-bits f b other .0) ∙ sym (patterns-order f (bitsOf a) (bitsOf b)))
 
-  floats-total : totalOf a b ≡ gives (orderZ (float-format.positionOf (fractionOf f) (exponentOf f) (bitsOf a)) (float-format.positionOf (fractionOf f) (exponentOf f) (bitsOf b)))
+  floats-total : totalOf a b
+      ≡ gives (orderZ (float-format.positionOf (fractionOf f) (exponentOf f) (bitsOf a)) (float-format.positionOf (fractionOf f) (exponentOf f) (bitsOf b)))
   floats-total = order-total a b _ k (cc (by-bits f a o .1, by-bits f b other .1))
 
 integers-compare : (a b : Value) → OneIntegerKind a b → compareOf a b ≡ gives (orderZ (positionOf a) (positionOf b))

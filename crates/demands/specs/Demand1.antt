@@ -70,7 +70,8 @@ pub record ByItsRules : Type 0 where
 
 -- what a lent buffer holds after a refusal is what it held before
 pub record Unchanged : Type 1 where
-  pub row : {A B : Type 0} (conv : A → Outcome B) (src : List A) (dst : List B) (n p : ℕ) → convertAnswer conv src dst ≡ refuses n p → convertExit conv src dst ≡ dst
+  pub row : {A B : Type 0} (conv : A → Outcome B) (src : List A) (dst : List B) (n p : ℕ)
+      → convertAnswer conv src dst ≡ refuses n p → convertExit conv src dst ≡ dst
   pub clamped-row : (range : Range) (row : List Float) (n p : ℕ) → clampAnswer range row ≡ refuses n p → clampExit range row ≡ row
   pub key-buffer : (r : Record) (buffer : List ℕ) (n p : ℕ) → writeOf r (length buffer) ≡ refuses n p → writeExit r buffer ≡ buffer
 

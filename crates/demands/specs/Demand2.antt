@@ -64,7 +64,8 @@ pub record Values : Type 0 where
   pub floats-compare : (f : Format) (a b : Value) → OneKind a b → OfForm (floating f) a
       → compareOf a b ≡ gives (float-order.compareOf (fractionOf f) (exponentOf f) (bitsOf a) (bitsOf b))
   pub floats-total : (f : Format) (a b : Value) → OneKind a b → OfForm (floating f) a
-      → totalOf a b ≡ gives (orderZ (float-format.positionOf (fractionOf f) (exponentOf f) (bitsOf a)) (float-format.positionOf (fractionOf f) (exponentOf f) (bitsOf b)))
+      → totalOf a b ≡ gives
+      (orderZ (float-format.positionOf (fractionOf f) (exponentOf f) (bitsOf a)) (float-format.positionOf (fractionOf f) (exponentOf f) (bitsOf b)))
   -- integers by their number, in both orders
   pub integers-compare : (a b : Value) → OneIntegerKind a b → compareOf a b ≡ gives (orderZ (positionOf a) (positionOf b))
   pub integers-total : (a b : Value) → OneIntegerKind a b → totalOf a b ≡ gives (orderZ (positionOf a) (positionOf b))
@@ -100,7 +101,8 @@ pub record Conversion : Type 0 where
 pub record Records : Type 0 where
   -- the first field that is not Equal decides, Unordered included; those behind it are not looked at
   pub first-decides : (a b : Record) → OneShape a b → (xs ys xs' ys' : List Field) (x y : Field) → fieldsOf a ≡ xs ++ (x ∷ xs') → fieldsOf b ≡ ys ++ (y ∷ ys')
-      → length xs ≡ length ys → AllEqual xs ys → (valueOrder (x .value) (y .value) ≡ Equal → ⊥) → «record».compareOf a b ≡ gives (valueOrder (x .value) (y .value))
+      → length xs ≡ length ys → AllEqual xs ys → (valueOrder (x .value) (y .value) ≡ Equal → ⊥)
+      → «record».compareOf a b ≡ gives (valueOrder (x .value) (y .value))
   pub all-equal : (a b : Record) → OneShape a b → AllEqual (fieldsOf a) (fieldsOf b) → «record».compareOf a b ≡ gives Equal
   -- places past the count are never looked at
   pub unused-places : (a b a' b' : Record) → a .count ≡ a' .count → b .count ≡ b' .count → fieldsOf a ≡ fieldsOf a' → fieldsOf b ≡ fieldsOf b'
@@ -127,7 +129,8 @@ pub record Clamps (v lower upper : Value) (low high : Order) : Type 0 where
 pub record Choosing : Type 0 where
   pub values : Chooses compareOf minOf maxOf
   pub records : Chooses «record».compareOf «record».minOf «record».maxOf
-  pub clamps : (v lower upper : Value) (bounds low high : Order) → compareOf lower upper ≡ gives bounds → compareOf v lower ≡ gives low → compareOf v upper ≡ gives high
+  pub clamps : (v lower upper : Value) (bounds low high : Order) → compareOf lower upper ≡ gives bounds
+      → compareOf v lower ≡ gives low → compareOf v upper ≡ gives high
       → isLessOrEqual bounds ≡ true → isUnordered low ≡ false → Clamps v lower upper low high
   -- a sample of a range, and so of a row, is clamped as the f32 value that holds it
   pub samples : (range : Range) (x : Float) (u v w : ℕ) → mapped floatOf (clampOf (F32 x u) (F32 (range .lower) v) (F32 (range .upper) w)) ≡ sampleOf range x

@@ -31,7 +31,8 @@ pub record Demand3 : Type 0 where
   pub first-byte : (s : Shape) → Usable s → (a b : Record) → OfShape s a → OfShape s b → (recordKey a ≡ recordKey b → ⊥)
       → (i : ℕ) × DifferAt i (recordKey a) (recordKey b) × (compareOf a b ≡ gives (orderN (getD (recordKey a) i 0) (getD (recordKey b) i 0)))
   -- "A byte string is accepted as a key of a shape exactly when some such record has it"
-  pub accepted-exactly : (s : Shape) → Usable s → (key : List ℕ) → Bytes key → ((r : Record) × (readOf s key ≡ gives r)) ↔ ((r : Record) × OfShape s r × (recordKey r ≡ key))
+  pub accepted-exactly : (s : Shape) → Usable s → (key : List ℕ) → Bytes key
+      → ((r : Record) × (readOf s key ≡ gives r)) ↔ ((r : Record) × OfShape s r × (recordKey r ≡ key))
   -- "reading gives that record with minus zero made plus zero and unused places reset"
   pub read-normal : (s : Shape) → Usable s → (r : Record) → OfShape s r → readOf s (recordKey r) ≡ gives (normalRecord r)
   -- "and writing that again gives the same bytes"

@@ -10,7 +10,8 @@ use borrow.Author.Tests.{lt-ltb, le-ltb, eq-eqb, ne-eqb}
 use lib.Dec.{ltb, eqb, eqb·suc-zero, leb·suc-suc}
 use lib.IntN.{ℤ}
 use Rattle.float.specs.Format.{infOf, negativeOf, absOf, magOf}
-use Rattle.float.specs.Number.{signedOf, Exact, notNumber, infinite, finite, times, Number, none, minusInfinity, plusInfinity, number, infinityOf, numberOf}
+use Rattle.float.specs.Number.{signedOf, Exact, notNumber, infinite, finite, times, Number, none, minusInfinity, plusInfinity, number}
+use Rattle.float.specs.Number.{infinityOf, numberOf}
 use Rattle.float.specs.Order.{orderN, orderZ, orderOf, patternOf, compareOf}
 use Rattle.float.specs.declared.Order.{Order}
 use Rattle.float.specs.declared.Order.the-variants.{Less, Equal, Greater, Unordered}

@@ -39,14 +39,18 @@ hidden binary64 = refl
 
 fields-mean : (f : Format) (s : Bool) (E t : ℕ) → Means f (ofFields f s E t) (fieldsExact f s E t)
 unfolding ofFields
-fields-mean binary32 s zero t = subst (λ (a : ℕ). Means binary32 (odd 24 s t 0 149) (finite s a)) (mul-one t) (of-value binary32 _ s (t * 1) (odd-sign 24 s t 0 149))
-fields-mean binary64 s zero t = subst (λ (a : ℕ). Means binary64 (odd 53 s t 0 1074) (finite s a)) (mul-one t) (of-value binary64 _ s (t * 1) (odd-sign 53 s t 0 1074))
+fields-mean binary32 s zero t =
+    subst (λ (a : ℕ). Means binary32 (odd 24 s t 0 149) (finite s a)) (mul-one t) (of-value binary32 _ s (t * 1) (odd-sign 24 s t 0 149))
+fields-mean binary64 s zero t =
+    subst (λ (a : ℕ). Means binary64 (odd 53 s t 0 1074) (finite s a)) (mul-one t) (of-value binary64 _ s (t * 1) (odd-sign 53 s t 0 1074))
 fields-mean f s (suc x) t = go (eqb (suc x) (ones f)) (eqb t 0)
   where
-    go : (b c : Bool) → Means f (cond b (cond c (inf s) nan) (odd (prec f) s (hid f + t) x (low f))) (cond b (cond c (infinite s) notNumber) (finite s ((2 ^ fractionOf f + t) * 2 ^ x)))
+    go : (b c : Bool) → Means f (cond b (cond c (inf s) nan) (odd (prec f) s (hid f + t) x (low f)))
+        (cond b (cond c (infinite s) notNumber) (finite s ((2 ^ fractionOf f + t) * 2 ^ x)))
     go true true = means-inf s
     go true false = means-nan
-    go false c = subst (λ (h : ℕ). Means f (odd (prec f) s (hid f + t) x (low f)) (finite s ((h + t) * 2 ^ x))) (hidden f) (of-value f _ s ((hid f + t) * 2 ^ x) (odd-sign (prec f) s (hid f + t) x (low f)))
+    go false c = subst (λ (h : ℕ). Means f (odd (prec f) s (hid f + t) x (low f)) (finite s ((h + t) * 2 ^ x))) (hidden f)
+        (of-value f _ s ((hid f + t) * 2 ^ x) (odd-sign (prec f) s (hid f + t) x (low f)))
 
 -- ---- a pattern's fields, by its abs
 
@@ -99,10 +103,15 @@ fields-by-abs f s x h =
       | inr (inl q) ↦
           let k : x ≤ infOf (fractionOf f) (exponentOf f) = omega arith in
           simp (eq-eqb (x / 2 ^ fractionOf f) (ones f) (fields-at f x q .0), eq-eqb (x % 2 ^ fractionOf f) 0 (fields-at f x q .1), le-ltb _ _ k, eq-eqb x _ q)
-      | inr (inr g) ↦ simp (eq-eqb (x / 2 ^ fractionOf f) (ones f) (fields-above f x h g .0), ne-eqb (x % 2 ^ fractionOf f) 0 (fields-above f x h g .1), lt-ltb _ _ g)
+      | inr (inr g) ↦ simp (
+        eq-eqb (x / 2 ^ fractionOf f) (ones f) (fields-above f x h g .0),
+        ne-eqb (x % 2 ^ fractionOf f) 0 (fields-above f x h g .1),
+        lt-ltb _ _ g,
+      )
     ]
 
-fields-pattern : (f : Format) (b : ℕ) → b < 2 * top f → fieldsExact f (leb (top f) b) (b % top f / hid f) (b % hid f) ≡ patternOf (fractionOf f) (exponentOf f) b
+fields-pattern : (f : Format) (b : ℕ) → b < 2 * top f
+    → fieldsExact f (leb (top f) b) (b % top f / hid f) (b % hid f) ≡ patternOf (fractionOf f) (exponentOf f) b
 unfolding patternOf magOf
 fields-pattern f b h =
     ap (fieldsExact f (leb (top f) b) (b % top f / hid f)) (fraction-rest f b)
@@ -117,7 +126,8 @@ unfolding ofBits
 pattern-means f b h = subst (λ (k : Exact). Means f (ofBits f b) k) (fields-pattern f b h) (fields-mean f (leb (top f) b) (b % top f / hid f) (b % hid f))
 
 pub float-means : (f : Format) (x : Float) → T (fits f x) → Means f x (patternOf (fractionOf f) (exponentOf f) (toBits f x))
-float-means f x h = subst (λ (v : Float). Means f v (patternOf (fractionOf f) (exponentOf f) (toBits f x))) (ofBits-toBits f x h) (pattern-means f (toBits f x) (toBits-lt f x h))
+float-means f x h = subst (λ (v : Float). Means f v (patternOf (fractionOf f) (exponentOf f) (toBits f x))) (ofBits-toBits f x h)
+    (pattern-means f (toBits f x) (toBits-lt f x h))
 
 -- ---- NaN
 

@@ -4,7 +4,9 @@ use mathlib.Core.Path.{_≡_, refl, _∙_, ap, subst, subst⁻¹}
 use mathlib.Core.Bool.{Bool, true, false}
 use mathlib.Core.Logic.{inl, inr}
 use Prim.Native.Nat.{ℕ, zero, suc, _+_, _-_, _*_, _/_, _%_, _^_, _≤_, _<_}
-use native.Mathlib.Nat.{eq-or-lt-of-le, le-trans, lt-of-lt-of-le, mul-lt-mul-of-pos-right, mul-le-mul-right, mul-le-mul-left, mul-assoc, mul-comm, pow-suc, pow-zero, mul-one, mod-lt, le-of-lt, le-of-eq, zero-div, zero-mod, div-eq-of-lt, mod-eq-of-lt, div-self, mod-self, suc-mul, add-zero, add-comm}
+use native.Mathlib.Nat.{eq-or-lt-of-le, le-trans, lt-of-lt-of-le, mul-lt-mul-of-pos-right, mul-le-mul-right, mul-le-mul-left, mul-assoc}
+use native.Mathlib.Nat.{mul-comm, pow-suc, pow-zero, mul-one, mod-lt, le-of-lt, le-of-eq, zero-div, zero-mod, div-eq-of-lt, mod-eq-of-lt}
+use native.Mathlib.Nat.{div-self, mod-self, suc-mul, add-zero, add-comm}
 use native.Mathlib.Omega.{arith}
 use borrow.Author.Tests.{le-leb, lt-leb}
 use lib.Pow.{pow-pos, pow-mono, shr-mono, split, high, low, high-ones}

@@ -20,7 +20,8 @@ use Rattle.float.proofs.Comparing.{bySign, by-sign, signed-kept, times-
 use Rattle.float.proofs.Language.{Means, means-nan, means-inf, means-fin, float-means}
 
 -- two magnitudes in other units, a over b as P over Q
-rescaled : (s t : Bool) (P Q L a b D : ℕ) → 0 < L → 0 < D → P * L ≡ a * D → Q * L ≡ b * D → orderZ (signedOf s P) (signedOf t Q) ≡ orderZ (signedOf s a) (signedOf t b)
+rescaled : (s t : Bool) (P Q L a b D : ℕ) → 0 < L → 0 < D → P * L ≡ a * D → Q * L ≡ b * D
+    → orderZ (signedOf s P) (signedOf t Q) ≡ orderZ (signedOf s a) (signedOf t b)
 rescaled s t P Q L a b D hL hD p q =
     sym (signed-kept (λ (x : ℕ). x * L) (zero-mul L) (times-rises L hL) s P t Q)
     ∙ cc (p, q)
@@ -55,7 +56,10 @@ module _ (f : Format) (s : Bool) (m : ℕ) (e : ℤ) (a : ℕ) (p : m * up e * 2
       sym (by-sign s (m * up e * down d) t (n * up d * down e))
       ∙ rescaled s t (m * up e * down d) (n * up d * down e) (2 ^ low f) a b (down e * down d) (pow-pos (low f)) (mul-pos (down-pos e) (down-pos d))
       (mul-right-comm (m * up e) (down d) (2 ^ low f) ∙ ap (λ (k : ℕ). k * down d) p ∙ mul-assoc a (down e) (down d))
-      (mul-right-comm (n * up d) (down e) (2 ^ low f) ∙ ap (λ (k : ℕ). k * down e) q ∙ mul-assoc b (down d) (down e) ∙ ap (λ (k : ℕ). b * k) (mul-comm (down d) (down e)))
+      (mul-right-comm (n * up d) (down e) (2 ^ low f)
+      ∙ ap (λ (k : ℕ). k * down e) q
+      ∙ mul-assoc b (down d) (down e)
+      ∙ ap (λ (k : ℕ). b * k) (mul-comm (down d) (down e)))
 
 lt-means : (f : Format) {x y : Float} {X Y : Exact} → Means f x X → Means f y Y → lt x y ≡ isLess (orderOf (numberOf X) (numberOf Y))
 unfolding lt

@@ -36,7 +36,8 @@ integers-less-trans x y z h k = tested-less x z (lt-trans x y z (less-tested x y
 pub integers-answer : (y z : ℤ) → (orderZ y z ≡ Less) ⊎ ((orderZ y z ≡ Equal) ⊎ (orderZ y z ≡ Greater))
 integers-answer y z = go (ltZ y z) (ltZ z y)
   where
-    go : (s t : Bool) → (cond s Less (cond t Greater Equal) ≡ Less) ⊎ ((cond s Less (cond t Greater Equal) ≡ Equal) ⊎ (cond s Less (cond t Greater Equal) ≡ Greater))
+    go : (s t : Bool) → (cond s Less (cond t Greater Equal) ≡ Less) ⊎
+        ((cond s Less (cond t Greater Equal) ≡ Equal) ⊎ (cond s Less (cond t Greater Equal) ≡ Greater))
     go true t = inl refl
     go false true = inr (inr refl)
     go false false = inr (inl refl)

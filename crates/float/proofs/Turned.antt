@@ -60,7 +60,8 @@ less-turned Unordered = refl
 
 pub greater-turned : (p e a b : ℕ) → isLess (compareOf p e b a) ≡ isGreater (compareOf p e a b)
 unfolding compareOf
-greater-turned p e a b = ap isLess (turn (numberOf (patternOf p e a)) (numberOf (patternOf p e b))) ∙ less-turned (orderOf (numberOf (patternOf p e a)) (numberOf (patternOf p e b)))
+greater-turned p e a b =
+    ap isLess (turn (numberOf (patternOf p e a)) (numberOf (patternOf p e b))) ∙ less-turned (orderOf (numberOf (patternOf p e a)) (numberOf (patternOf p e b)))
 
 -- ---- Unordered is no number on either side
 
@@ -87,6 +88,9 @@ unordered-none (finite s m) (infinite true) = refl
 unordered-none (finite s m) (infinite false) = refl
 unordered-none (finite s m) (finite t n) = integers-ordered (signedOf s m) (signedOf t n)
 
-pub unordered-nan : (f : Format) (x y : Float) → T (fits f x) → T (fits f y) → isUnordered (compareOf (fractionOf f) (exponentOf f) (toBits f x) (toBits f y)) ≡ (isNan x || isNan y)
+pub unordered-nan : (f : Format) (x y : Float) → T (fits f x) → T (fits f y)
+    → isUnordered (compareOf (fractionOf f) (exponentOf f) (toBits f x) (toBits f y)) ≡ (isNan x || isNan y)
 unfolding compareOf
-unordered-nan f x y h k = unordered-none (patternOf (fractionOf f) (exponentOf f) (toBits f x)) (patternOf (fractionOf f) (exponentOf f) (toBits f y)) ∙ cc (nan-float f x h, nan-float f y k)
+unordered-nan f x y h k =
+    unordered-none (patternOf (fractionOf f) (exponentOf f) (toBits f x)) (patternOf (fractionOf f) (exponentOf f) (toBits f y))
+    ∙ cc (nan-float f x h, nan-float f y k)

@@ -43,7 +43,8 @@ folded-last f r (c ∷ bs) b = folded-last f (f r c) bs b
 
 module _ {S B : Type 0} {left : S → ℕ} {Takes : S → B → S → Type 0} {Fails : S → S → Type 0} {first : S} where
   -- what is taken passes the first test, and the second too where a turn is left behind it; behind a failure none is left
-  module _ {P Q : B → Type 0} (fits : (s next : S) (b : B) → Takes s b next → P b) (ends : (s next : S) (b : B) → Takes s b next → 0 < left next → Q b) (stops : (s next : S) → Fails s next → left next ≡ 0) where
+  module _ {P Q : B → Type 0} (fits : (s next : S) (b : B) → Takes s b next → P b)
+      (ends : (s next : S) (b : B) → Takes s b next → 0 < left next → Q b) (stops : (s next : S) → Fails s next → left next ≡ 0) where
     shapes : {bs : List B} {s : S} → Chain left Takes Fails first bs s → AllButLast P Q bs × (0 < left s → Each (λ b. P b × Q b) bs)
     shapes begins = (none-at-all, λ h. no-more)
     shapes (takes bs s next b chain some t) =
@@ -56,7 +57,8 @@ module _ {S B : Type 0} {left : S → ℕ} {Takes : S → B → S → Type 0} {F
     shape chain = shapes chain .0
 
   -- what each turn does to a view of the state, all of them do
-  module _ {R : Type 0} (f : R → B → R) (view : S → R) (step : (s next : S) (b : B) → Takes s b next → f (view s) b ≡ view next) (stay : (s next : S) → Fails s next → view s ≡ view next) where
+  module _ {R : Type 0} (f : R → B → R) (view : S → R) (step : (s next : S) (b : B) → Takes s b next → f (view s) b ≡ view next)
+      (stay : (s next : S) → Fails s next → view s ≡ view next) where
     pub leads : {bs : List B} {s : S} → Chain left Takes Fails first bs s → folded f (view first) bs ≡ view s
     leads begins = refl
     leads (takes bs s next b chain some t) = folded-last f (view first) bs b ∙ ap (λ r. f r b) (leads chain) ∙ step s next b t

@@ -71,7 +71,8 @@ module _ (s : Shape) (a b : Record) (u : Usable s) (h : OfShape s a) (k : OfShap
   pub same-key : (recordKey a ≡ recordKey b) ↔ (compareOf a b ≡ gives Equal)
   same-key =
       let both = same-keys (h .keyed) (k .keyed) (h .kinds-are ∙ sym (k .kinds-are)) in
-      let is : compareOf a b ≡ gives (lexicalOf (fieldsOf a) (fieldsOf b)) = records-order ∙ ap gives (keys-order (h .keyed) (k .keyed) (h .kinds-are ∙ sym (k .kinds-are))) in
+      let is : compareOf a b ≡ gives (lexicalOf (fieldsOf a) (fieldsOf b)) =
+      records-order ∙ ap gives (keys-order (h .keyed) (k .keyed) (h .kinds-are ∙ sym (k .kinds-are))) in
       ((λ e. is ∙ ap gives (both .0 e)), λ e. let q : gives (lexicalOf (fieldsOf a) (fieldsOf b)) ≡ gives Equal = sym is ∙ e in both .1 cc)
 
   -- else the first byte that differs orders them as the records are ordered
@@ -134,7 +135,8 @@ made-fields fs = take-at fs (replicate (12 - length fs) (fieldFor (U8 0))) (leng
 made-places : (fs : List Field) → length fs ≤ 12 → length (recordOf fs .fields) ≡ 12
 made-places fs h = length-append fs (replicate (12 - length fs) (fieldFor (U8 0))) ∙ rw (length-replicate (12 - length fs) (fieldFor (U8 0))) (omega arith)
 
-made-of-shape : (s : Shape) (key : List ℕ) (fs : List Field) → Usable s → FieldsFor (kindsIn s) key fs → OfShape s (recordOf fs) × (recordKey (recordOf fs) ≡ key)
+made-of-shape : (s : Shape) (key : List ℕ) (fs : List Field) → Usable s → FieldsFor (kindsIn s) key fs
+    → OfShape s (recordOf fs) × (recordKey (recordOf fs) ≡ key)
 made-of-shape s key fs u w =
     let n : length fs ≡ s .count = sym (length-map fs (λ (f : Field). kindOf (f .value))) ∙ ap length (w .kinds-are) ∙ shape-length s u in (
       record {

@@ -1,4 +1,5 @@
--- One field: its key number is in range, orders as its value, and is read back as the value made normal; and every canonical number is the key of the value read.
+-- One field: its key number is in range, orders as its value, and is read back as the value made normal; and every canonical number is the key of the
+-- value read.
 -- A law for each of the three forms, over the width; the ten kinds are its instances.
 use mathlib.Core.Path.{_≡_, refl, sym, ap, _∙_, subst}
 use mathlib.Core.Bool.{false}
@@ -28,7 +29,8 @@ use Rattle.key.proofs.FloatFields.{float-below, float-canonical, float-
 -- ---- the order
 
 signed-order : (k : ℕ) (y z : ℤ) → fitsSigned (2 ^ (k - 1)) y → fitsSigned (2 ^ (k - 1)) z
-    → orderN (keyIn (integer k y)) (keyIn (integer k z)) ≡ orderOf (float-number.numberOf (exactIn (integer k y))) (float-number.numberOf (exactIn (integer k z)))
+    → orderN (keyIn (integer k y)) (keyIn (integer k z))
+    ≡ orderOf (float-number.numberOf (exactIn (integer k y))) (float-number.numberOf (exactIn (integer k z)))
 signed-order k y z h l = shifted-order (2 ^ (k - 1)) y z h l ∙ integers-order y z
 
 content-order : (c d : Content) → formIn c ≡ formIn d → InRange c → InRange d → isNone (exactIn c) ≡ false → isNone (exactIn d) ≡ false
@@ -39,19 +41,22 @@ content-order (natural j m) (real g y w) q h l s t = clash cc
 content-order (integer j y) (natural k n) q h l s t = clash cc
 content-order (integer j y) (integer k z) q h l s t =
     let r : j ≡ k = cc in
-    subst (λ (i : ℕ). orderN (keyIn (integer j y)) (keyIn (integer i z)) ≡ orderOf (float-number.numberOf (exactIn (integer j y))) (float-number.numberOf (exactIn (integer i z)))) r
+    subst (λ (i : ℕ). orderN (keyIn (integer j y)) (keyIn (integer i z))
+    ≡ orderOf (float-number.numberOf (exactIn (integer j y))) (float-number.numberOf (exactIn (integer i z)))) r
     (signed-order j y z h (rw (sym r) at l))
 content-order (integer j y) (real g x w) q h l s t = clash cc
 content-order (real f x v) (natural k n) q h l s t = clash cc
 content-order (real f x v) (integer k z) q h l s t = clash cc
 content-order (real f x v) (real g y w) q h l s t =
     let r : g ≡ f = cc in
-    subst (λ (i : Format). orderN (keyIn (real f x v)) (keyIn (real i y w)) ≡ orderOf (float-number.numberOf (exactIn (real f x v))) (float-number.numberOf (exactIn (real i y w)))) (sym r)
+    subst (λ (i : Format). orderN (keyIn (real f x v)) (keyIn (real i y w))
+    ≡ orderOf (float-number.numberOf (exactIn (real f x v))) (float-number.numberOf (exactIn (real i y w)))) (sym r)
     (float-order f x y v w h (rw r at l) s (rw r at t))
 
 pub field-order : (v w : Value) → Keyed v → Keyed w → kindOf v ≡ kindOf w → orderN (keyNumber v) (keyNumber w) ≡ valueOrder v w
 field-order v w h k q =
-    content-order (contentOf v) (contentOf w) (content-form v ∙ ap formOf q ∙ sym (content-form w)) (h .in-range) (k .in-range) (h .some-number) (k .some-number)
+    content-order (contentOf v) (contentOf w) (content-form v ∙ ap formOf q ∙ sym (content-form w)) (h .in-range) (k .in-range)
+    (h .some-number) (k .some-number)
 
 -- ---- reading the key of a field
 
@@ -100,7 +105,11 @@ unsigned-write v k n h q =
 
 signed-write : (v : Value) (k n : ℕ) {z : ℤ} → fitsSigned (2 ^ (k - 1)) z × (keyIn (integer k z) ≡ n) → contentOf v ≡ integer k z → Writes n v
 signed-write v k n {z} h q =
-    record { keyed = record { in-range = subst InRange (sym q) (h .0); some-number = ap (λ (c : Content). isNone (exactIn c)) q ∙ whole-some z }; number-is = ap keyIn q ∙ h .1 }
+    record {
+      keyed = record
+          { in-range = subst InRange (sym q) (h .0); some-number = ap (λ (c : Content). isNone (exactIn c)) q ∙ whole-some z };
+      number-is = ap keyIn q ∙ h .1;
+    }
 
 pub field-write : (k : Kind) (n : ℕ) → n < 256 ^ bytesOf k → notCanonical (formOf k) n ≡ false → Writes n (valueOf k (bitsFrom (formOf k) n))
 unfolding valueOf
@@ -112,5 +121,7 @@ field-write kind.I8 n h c = signed-write _ 8 n (read-shifted (2 ^ 7) n h) refl
 field-write kind.I16 n h c = signed-write _ 16 n (read-shifted (2 ^ 15) n h) refl
 field-write kind.I32 n h c = signed-write _ 32 n (read-shifted (2 ^ 31) n h) refl
 field-write kind.I64 n h c = signed-write _ 64 n (read-shifted (2 ^ 63) n h) refl
-field-write kind.F32 n h c = record { keyed = record { in-range = ofBits-fits binary32 _; some-number = made-some binary32 n h c }; number-is = made-key binary32 n h c }
-field-write kind.F64 n h c = record { keyed = record { in-range = ofBits-fits binary64 _; some-number = made-some binary64 n h c }; number-is = made-key binary64 n h c }
+field-write kind.F32 n h c =
+    record { keyed = record { in-range = ofBits-fits binary32 _; some-number = made-some binary32 n h c }; number-is = made-key binary32 n h c }
+field-write kind.F64 n h c =
+    record { keyed = record { in-range = ofBits-fits binary64 _; some-number = made-some binary64 n h c }; number-is = made-key binary64 n h c }

@@ -30,7 +30,8 @@ use Rattle.bytewise.specs.Numbers.{Bytes}
 use Rattle.bytewise.specs.Numbers as numbers
 use Rattle.key.specs.Keyed.{Keyed, AllKeyed, none, more, normalFields}
 use Rattle.key.proofs.Passing.{mapped-gives, read-none, read-more}
-use Rattle.bytewise.proofs.BigEndian.{bytes-append, bytes-big, bytes-take, bytes-drop, length-big, number-big, big-number, number-below, order-append, order-big, equal-bytes, bytes-equal}
+use Rattle.bytewise.proofs.BigEndian.{bytes-append, bytes-big, bytes-take, bytes-drop, length-big, number-big, big-number, number-below}
+use Rattle.bytewise.proofs.BigEndian.{order-append, order-big, equal-bytes, bytes-equal}
 use Rattle.key.proofs.FieldKeys.{field-order, field-read, field-write}
 
 field-length : (v : Value) → length (fieldKey v) ≡ bytesOf (kindOf v)
@@ -120,7 +121,8 @@ field-more k ks key gs b l c r =
       keyed = more _ gs (w .keyed) (r .keyed);
     }
 
-pub written-read : (at : ℕ) (ks : List Kind) (key : List ℕ) → Bytes key → length key ≡ bytesIn ks → (fs : List Field) → readFields at ks key ≡ gives fs → FieldsFor ks key fs
+pub written-read : (at : ℕ) (ks : List Kind) (key : List ℕ) → Bytes key → length key ≡ bytesIn ks → (fs : List Field)
+    → readFields at ks key ≡ gives fs → FieldsFor ks key fs
 unfolding bytesIn keyOf
 written-read at [] [] b l fs e =
     let h : gives [] ≡ gives fs = sym (read-none at []) ∙ e in

@@ -96,7 +96,8 @@ module _ (f : Format) (x : Float) (w : ℕ) (h : T (fits f x)) (s : isNone (exac
   pub word-read : wordFor (fractionOf f) (exponentOf f) readBits ≡ 0
   word-read = sym (word-none (fractionOf f) (exponentOf f) readBits (sym (ap (nanOf (fractionOf f) (exponentOf f)) read-is ∙ neither _ _ float-canonical .0)))
 
-pub float-order : (f : Format) (x y : Float) (v w : ℕ) → T (fits f x) → T (fits f y) → isNone (exactIn (real f x v)) ≡ false → isNone (exactIn (real f y w)) ≡ false
+pub float-order : (f : Format) (x y : Float) (v w : ℕ) → T (fits f x) → T (fits f y) → isNone (exactIn (real f x v)) ≡ false
+    → isNone (exactIn (real f y w)) ≡ false
     → orderN (keyIn (real f x v)) (keyIn (real f y w)) ≡ orderOf (float-number.numberOf (exactIn (real f x v))) (float-number.numberOf (exactIn (real f y w)))
 float-order f x y v w h k s t =
     key-order (fractionOf f) (exponentOf f) (floatBits f x v) (floatBits f y w) (infinity-positive f)
@@ -132,4 +133,5 @@ module _ (f : Format) (n : ℕ) (h : n < 2 * signOf (fractionOf f) (exponentOf f
   pub made-key : keyIn madeFloat ≡ n
   made-key =
       ap (floatKey (signOf (fractionOf f) (exponentOf f))) (bits-pattern f madeBits made-small ∙ made-is)
-      ∙ key-from (fractionOf f) (exponentOf f) n h (eqb-false _ _ (neither (nanOf (fractionOf f) (exponentOf f) (patternFrom (signOf (fractionOf f) (exponentOf f)) n)) _ c .1))
+      ∙ key-from (fractionOf f) (exponentOf f) n h
+      (eqb-false _ _ (neither (nanOf (fractionOf f) (exponentOf f) (patternFrom (signOf (fractionOf f) (exponentOf f)) n)) _ c .1))

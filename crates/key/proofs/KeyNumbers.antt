@@ -149,7 +149,8 @@ unfolding absOf
 content-none (natural k n) = refl
 content-none (integer k (pos n)) = refl
 content-none (integer k (negsuc n)) = refl
-content-none (real f x w) = sym (times-none (stepOf f) (patternOf (fractionOf f) (exponentOf f) (floatBits f x w)) ∙ none-pattern (fractionOf f) (exponentOf f) (floatBits f x w))
+content-none (real f x w) =
+    sym (times-none (stepOf f) (patternOf (fractionOf f) (exponentOf f) (floatBits f x w)) ∙ none-pattern (fractionOf f) (exponentOf f) (floatBits f x w))
 
 -- ---- a value, by its kind and its bits
 

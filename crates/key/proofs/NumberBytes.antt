@@ -33,7 +33,8 @@ module _ (at : ℕ) (k l : List ℕ) (h : at + length k ≤ length l) where
   unfolding put
   put-put m =
       let q : List ℕ = drop (at + length k) l in
-      let head : take (at + length k) (put at k l) ≡ take at l ++ k = ap (take (at + length k)) put-split ∙ take-at (take at l ++ k) q (at + length k) head-length in
+      let head : take (at + length k) (put at k l) ≡ take at l ++ k =
+      ap (take (at + length k)) put-split ∙ take-at (take at l ++ k) q (at + length k) head-length in
       let tail : drop (at + length k + length m) (put at k l) ≡ drop (at + length (k ++ m)) l =
       ap (drop (at + length k + length m)) put-split
       ∙ sym (drop-drop (length m) (at + length k) ((take at l ++ k) ++ q))
@@ -58,14 +59,16 @@ module _ (to width n : ℕ) (old : List ℕ) where
   abbrev pub Laying : List ℕ → ℕ → ℕ → Type 0
   Laying now left rest = (left ≤ width) × (length now ≡ length old) × (put to (bigEndian left rest) now ≡ put to (bigEndian width n) old)
 
-  lay-last : (now : List ℕ) (left rest : ℕ) → 0 < left → to + left ≤ length now → put to (bigEndian (left - 1) (rest / 256)) (set now (to + (left - 1)) (rest % 256)) ≡ put to (bigEndian left rest) now
+  lay-last : (now : List ℕ) (left rest : ℕ) → 0 < left → to + left ≤ length now
+      → put to (bigEndian (left - 1) (rest / 256)) (set now (to + (left - 1)) (rest % 256)) ≡ put to (bigEndian left rest) now
   unfolding bigEndian
   lay-last now zero rest some h = absurd (omega arith)
   lay-last now (suc w) rest some h =
       let e : length (bigEndian w (rest / 256)) ≡ w = length-big w (rest / 256) in
       rw sub-one (rw e at (put-last to (bigEndian w (rest / 256)) now (rest % 256) (omega arith)))
 
-  pub lay-step : (now : List ℕ) (left rest : ℕ) → to + width ≤ length old → 0 < left → Laying now left rest → Laying (set now (to + (left - 1)) (rest % 256)) (left - 1) (rest / 256)
+  pub lay-step : (now : List ℕ) (left rest : ℕ) → to + width ≤ length old → 0 < left → Laying now left rest
+      → Laying (set now (to + (left - 1)) (rest % 256)) (left - 1) (rest / 256)
   lay-step now left rest h some i = (omega arith, length-set now _ _ ∙ i .1, lay-last now left rest some (omega arith) ∙ i .2)
 
   pub lay-end : (now : List ℕ) (left rest : ℕ) → left ≤ 0 → Laying now left rest → now ≡ put to (bigEndian width n) old

@@ -34,11 +34,14 @@ unfolding readFields numbersIn eachOf
 read-more at k ks key =
     let n : ℕ = fromBigEndian 0 (take (bytesOf k) key) in
     let rest : List (Kind × ℕ) = numbersIn ks (drop (bytesOf k) key) in
-    ap (refuseIf (notCanonical (formOf k) n) 12 at) (sym (chain-mapped (λ fs. fieldFor (valueOf k (bitsFrom (formOf k) n)) ∷ fs) (canonicalRules (suc at) rest) (gives (fieldsFrom rest))))
+    ap (refuseIf (notCanonical (formOf k) n) 12 at)
+    (sym (chain-mapped (λ fs. fieldFor (valueOf k (bitsFrom (formOf k) n)) ∷ fs) (canonicalRules (suc at) rest) (gives (fieldsFrom rest))))
 
 pub read-by : (s : Shape) (key : List ℕ)
-    → readOf s key ≡ refuseIf (badCount (s .count)) 11 0 (refuseIf (not (eqb (length key) (bytesIn (kindsIn s)))) 9 0 (mapped recordOf (readFields 0 (kindsIn s) key)))
+    → readOf s key ≡ refuseIf (badCount (s .count)) 11 0
+    (refuseIf (not (eqb (length key) (bytesIn (kindsIn s)))) 9 0 (mapped recordOf (readFields 0 (kindsIn s) key)))
 unfolding readOf readFields
 read-by s key =
     let ns : List (Kind × ℕ) = numbersIn (kindsIn s) key in
-    ap (λ o. refuseIf (badCount (s .count)) 11 0 (refuseIf (not (eqb (length key) (bytesIn (kindsIn s)))) 9 0 o)) (sym (chain-mapped recordOf (canonicalRules 0 ns) (gives (fieldsFrom ns))))
+    ap (λ o. refuseIf (badCount (s .count)) 11 0 (refuseIf (not (eqb (length key) (bytesIn (kindsIn s)))) 9 0 o))
+    (sym (chain-mapped recordOf (canonicalRules 0 ns) (gives (fieldsFrom ns))))

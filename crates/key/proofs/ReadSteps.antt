@@ -57,11 +57,13 @@ place-one l at f h fs =
 
 finish-field : (r : Record) (at : ℕ) (v : Value) (rest : Outcome (List Field)) → at < length (r .fields)
     → finishedAt (suc at) (withField r at v) rest ≡ finishedAt at r (mapped (λ fs. fieldFor v ∷ fs) rest)
-finish-field r at v (gives fs) h = ap (λ (l : List Field). recordedOf (gives (record { fields = l; count = r .count }))) (place-one (r .fields) at (fieldFor v) h fs)
+finish-field r at v (gives fs) h =
+    ap (λ (l : List Field). recordedOf (gives (record { fields = l; count = r .count }))) (place-one (r .fields) at (fieldFor v) h fs)
 finish-field r at v (refuses m p) h = refl
 
 finish-none : (r : Record) (at : ℕ) → recordedOf (gives r) ≡ finishedAt at r (gives [])
-finish-none r at = ap (λ (l : List Field). recordedOf (gives (record { fields = l; count = r .count }))) (sym (rw (add-zero at) (take-append-drop at (r .fields))))
+finish-none r at = ap (λ (l : List Field). recordedOf (gives (record { fields = l; count = r .count })))
+    (sym (rw (add-zero at) (take-append-drop at (r .fields))))
 
 -- a blank record filled from the start
 drop-replicate : (n k : ℕ) (f : Field) → drop k (replicate n f) ≡ replicate (n - k) f
@@ -69,12 +71,14 @@ drop-replicate n zero f = ap (λ (j : ℕ). replicate j f) (let e : n ≡ n - 0 
 drop-replicate zero (suc k) f = ap (λ (j : ℕ). replicate j f) (let e : 0 ≡ 0 - suc k = omega arith in e)
 drop-replicate (suc n) (suc k) f = drop-replicate n k f ∙ ap (λ (j : ℕ). replicate j f) (let e : n - k ≡ suc n - suc k = omega arith in e)
 
-finish-blank : (n : ℕ) (rest : Outcome (List Field)) → ((fs : List Field) → rest ≡ gives fs → length fs ≡ n) → finishedAt 0 (record { fields = blank .fields; count = n }) rest ≡ recordedOf (mapped recordOf rest)
+finish-blank : (n : ℕ) (rest : Outcome (List Field)) → ((fs : List Field) → rest ≡ gives fs → length fs ≡ n)
+    → finishedAt 0 (record { fields = blank .fields; count = n }) rest ≡ recordedOf (mapped recordOf rest)
 finish-blank n (refuses m p) h = refl
 finish-blank n (gives fs) h = rw (← h fs refl, zero-add, drop-replicate 12 (length fs) (fieldFor (U8 0)))
 
 -- as many fields are read as there are kinds
-then-length : (t : Bool) (number at : ℕ) (f : Field) (rest : Outcome (List Field)) (fs : List Field) (n : ℕ) → ((gs : List Field) → rest ≡ gives gs → length gs ≡ n)
+then-length : (t : Bool) (number at : ℕ) (f : Field) (rest : Outcome (List Field)) (fs : List Field) (n : ℕ)
+    → ((gs : List Field) → rest ≡ gives gs → length gs ≡ n)
     → refuseIf t number at (mapped (λ gs. f ∷ gs) rest) ≡ gives fs → length fs ≡ suc n
 then-length true number at f rest fs n h e = clash cc
 then-length false number at f (refuses m p) fs n h e = clash cc
@@ -86,8 +90,10 @@ read-length at [] key fs e =
     let q : fs ≡ [] = cc in
     ap length q
 read-length at (k ∷ ks) key fs e =
-    then-length (notCanonical (formOf k) (fromBigEndian 0 (take (bytesOf k) key))) 12 at (fieldFor (valueOf k (bitsFrom (formOf k) (fromBigEndian 0 (take (bytesOf k) key)))))
-    (readFields (suc at) ks (drop (bytesOf k) key)) fs (length ks) (λ gs q. read-length (suc at) ks (drop (bytesOf k) key) gs q) (sym (read-more at k ks key) ∙ e)
+    then-length (notCanonical (formOf k) (fromBigEndian 0 (take (bytesOf k) key))) 12 at
+    (fieldFor (valueOf k (bitsFrom (formOf k) (fromBigEndian 0 (take (bytesOf k) key)))))
+    (readFields (suc at) ks (drop (bytesOf k) key)) fs (length ks) (λ gs q. read-length (suc at) ks (drop (bytesOf k) key) gs q)
+    (sym (read-more at k ks key) ∙ e)
 
 -- ---- where the passes stand
 
@@ -133,7 +139,8 @@ module _ (s : Shape) (few : s .count ≤ 12) (twelve : length (s .places) ≡ 12
   unfolding bytesIn
   sum-none = (omega arith, refl, omega arith)
 
-  pub sum-step : (n at : ℕ) (d : Place) → at < s .count → {w : ℕ} → (w ≡ bytesOf (getD (s .places) at d .kind)) × (0 < w) × (w ≤ 8) → Summed s n at → Summed s (n + w) (at + 1)
+  pub sum-step : (n at : ℕ) (d : Place) → at < s .count → {w : ℕ}
+      → (w ≡ bytesOf (getD (s .places) at d .kind)) × (0 < w) × (w ≤ 8) → Summed s n at → Summed s (n + w) (at + 1)
   sum-step n at d h q c =
       let next : bytesIn (take (suc at) ks) ≡ bytesIn (take at ks) + bytesOf (getD (s .places) at d .kind) =
       ap bytesIn (kinds-passed at d h) ∙ bytes-snoc (take at ks) (getD (s .places) at d .kind) in
@@ -156,7 +163,8 @@ module _ (s : Shape) (few : s .count ≤ 12) (twelve : length (s .places) ≡ 12
       pub read-room : (w ≤ 8) × (from + w ≤ length key)
       read-room = (w-is .2, omega (arith, bytes-left, filled .1, w-is .0))
 
-      module _ {n : ℕ} (n-is : n ≡ fromBigEndian 0 (take w (drop from key))) {l : Weights} (l-is : l ≡ weightsFor (formOf k)) {b : ℕ} (b-is : b ≡ bitsByWeights l n) {t : Bool} (t-is : t ≡ foreignIn l b) where
+      module _ {n : ℕ} (n-is : n ≡ fromBigEndian 0 (take w (drop from key))) {l : Weights} (l-is : l ≡ weightsFor (formOf k))
+          {b : ℕ} (b-is : b ≡ bitsByWeights l n) {t : Bool} (t-is : t ≡ foreignIn l b) where
         own-bits : b ≡ bitsFrom (formOf k) n
         own-bits = b-is ∙ ap (λ (i : Weights). bitsByWeights i n) l-is ∙ form-bits (formOf k) n (kind-sized k)
 
@@ -167,7 +175,9 @@ module _ (s : Shape) (few : s .count ≤ 12) (twelve : length (s .places) ≡ 12
         rest = readFields (suc at) (drop (suc at) ks) (drop (from + w) key)
 
         fields-left : readFields at (drop at ks) (drop from key) ≡ refuseIf t 12 at (mapped (λ fs. fieldFor (valueOf k b) ∷ fs) rest)
-        fields-left = ap (λ (l : List Kind). readFields at l (drop from key)) (kinds-left at d h) ∙ read-more at k (drop (suc at) ks) (drop from key) ∙ rw (← w-is .0, ← n-is, ← own-test, ← own-bits, drop-drop w from key)
+        fields-left = ap (λ (l : List Kind). readFields at l (drop from key)) (kinds-left at d h)
+            ∙ read-more at k (drop (suc at) ks) (drop from key)
+            ∙ rw (← w-is .0, ← n-is, ← own-test, ← own-bits, drop-drop w from key)
 
         pub read-stop : t ≡ true → recordedOf (refuses 12 at) ≡ recordedOf (readOf s key)
         read-stop f =
@@ -203,7 +213,8 @@ module _ (s : Shape) (key : List ℕ) {t : Bool} (count-is : t ≡ badCount (s .
     unfolding readOf
     read-bad-length h = rw (← count-is, count-good, ← n-is, ne-eqb (length key) n h)
 
-    pub read-start : s .count ≤ 12 → length (s .places) ≡ 12 → length key ≡ n → {r : Record} → r ≡ blank → Filled s key (record { fields = r .fields; count = s .count }) 0 0
+    pub read-start : s .count ≤ 12 → length (s .places) ≡ 12 → length key ≡ n → {r : Record} → r ≡ blank
+        → Filled s key (record { fields = r .fields; count = s .count }) 0 0
     read-start few twelve h e = rw e (
       omega arith,
       omega (arith, n-is),

@@ -55,7 +55,8 @@ module _ (r : Record) where
   Passed at = (at ≤ r .count) × ((n : ℕ) → chain (nanRules 0 (fieldsOf r)) (gives n) ≡ chain (nanRules at (drop at (fieldsOf r))) (gives n))
 
   abbrev pub Laid : List ℕ → List ℕ → ℕ → ℕ → Type 0
-  Laid old now to at = (at ≤ r .count) × (to ≡ length (keyOf (take at (fieldsOf r)))) × (now ≡ put 0 (keyOf (take at (fieldsOf r))) old) × (length now ≡ length old) × (to ≤ 8 * at)
+  Laid old now to at = (at ≤ r .count) × (to ≡ length (keyOf (take at (fieldsOf r))))
+      × (now ≡ put 0 (keyOf (take at (fieldsOf r))) old) × (length now ≡ length old) × (to ≤ 8 * at)
 
 module _ (r : Record) (few : r .count ≤ 12) (twelve : length (r .fields) ≡ 12) where
   abbrev fs : List Field
@@ -100,7 +101,8 @@ module _ (r : Record) (few : r .count ≤ 12) (twelve : length (r .fields) ≡ 1
   unfolding keyOf
   count-none = (omega arith, refl, omega arith)
 
-  pub count-step : (n at : ℕ) (d : Field) → at < r .count → {k : Kind} → k ≡ kindOf (getD (r .fields) at d .value) → {w : ℕ} → (w ≡ bytesOf k) × (0 < w) × (w ≤ 8) → Counted r n at → Counted r (n + w) (at + 1)
+  pub count-step : (n at : ℕ) (d : Field) → at < r .count → {k : Kind} → k ≡ kindOf (getD (r .fields) at d .value) → {w : ℕ}
+      → (w ≡ bytesOf k) × (0 < w) × (w ≤ 8) → Counted r n at → Counted r (n + w) (at + 1)
   count-step n at d h e {w} q c =
       let b : w ≡ bytesOf (kindOf (getD (r .fields) at d .value)) = q .0 ∙ ap bytesOf e in
       (omega arith, omega (arith, bytes-next at d h, b, c .1), omega (arith, q .2, c .2))
@@ -145,14 +147,16 @@ module _ (r : Record) (few : r .count ≤ 12) (twelve : length (r .fields) ≡ 1
         ∙ ap (λ (l : List ℕ). put 0 l old) (sym (key-next at d h))
 
     module _ (now : List ℕ) (to at : ℕ) (laid : Laid r old now to at) where
-      module _ (d : Field) (h : at < r .count) {k : Kind} (k-is : k ≡ kindOf (getD (r .fields) at d .value)) {w : ℕ} (w-is : (w ≡ bytesOf k) × (0 < w) × (w ≤ 8)) where
+      module _ (d : Field) (h : at < r .count) {k : Kind} (k-is : k ≡ kindOf (getD (r .fields) at d .value)) {w : ℕ}
+          (w-is : (w ≡ bytesOf k) × (0 < w) × (w ≤ 8)) where
         own-width : w ≡ bytesOf (kindOf (getD (r .fields) at d .value))
         own-width = w-is .0 ∙ ap bytesOf k-is
 
         pub laid-room : to + w ≤ length now
         laid-room = omega (arith, laid .3, laid .1, own-width, bytes-next at d h, key-within (at + 1))
 
-        pub laid-step : {n : ℕ} → n ≡ keyNumber (getD (r .fields) at d .value) → {new : List ℕ} → new ≡ put to (bigEndian w n) now → Laid r old new (to + w) (at + 1)
+        pub laid-step : {n : ℕ} → n ≡ keyNumber (getD (r .fields) at d .value) → {new : List ℕ} → new ≡ put to (bigEndian w n) now
+            → Laid r old new (to + w) (at + 1)
         laid-step {n} e z = (
           omega arith,
           omega (arith, laid .1, own-width, bytes-next at d h),

@@ -78,7 +78,8 @@ module _ (a b : Value) where
 
 -- ---- clamp
 
-module _ (v lower upper : Value) {bounds low high : Order} (w : compareOf lower upper ≡ gives bounds) (l : compareOf v lower ≡ gives low) (u : compareOf v upper ≡ gives high) where
+module _ (v lower upper : Value) {bounds low high : Order} (w : compareOf lower upper ≡ gives bounds)
+    (l : compareOf v lower ≡ gives low) (u : compareOf v upper ≡ gives high) where
   clamp-at : clampOf v lower upper ≡ clampedBy bounds low high v lower upper
   clamp-at = sym (clamp-clamped v lower upper (sym l) (sym u) (sym w) refl)
 

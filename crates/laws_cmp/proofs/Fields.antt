@@ -60,7 +60,8 @@ unfolding lexicalOf
 turned-fields [] [] = refl
 turned-fields [] (y ∷ ys) = refl
 turned-fields (x ∷ xs) [] = refl
-turned-fields (x ∷ xs) (y ∷ ys) = rw (turn (numberOf (x .value)) (numberOf (y .value)), turned-fields xs ys) (turned-else (valueOrder (x .value) (y .value)) (lexicalOf xs ys))
+turned-fields (x ∷ xs) (y ∷ ys) =
+    rw (turn (numberOf (x .value)) (numberOf (y .value)), turned-fields xs ys) (turned-else (valueOrder (x .value) (y .value)) (lexicalOf xs ys))
 
 -- ---- transitive
 

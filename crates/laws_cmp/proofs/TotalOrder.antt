@@ -63,8 +63,10 @@ one-format a b s t k = same-form (sym (s .form) ∙ ap formOf k ∙ t .form)
 
 -- ---- Equal only for the same bits
 
-float-bits : (f g : Format) (m n : ℕ) → f ≡ g → patterns.positionOf (fractionOf f) (exponentOf f) m ≡ patterns.positionOf (fractionOf g) (exponentOf g) n → m ≡ n
-float-bits f g m n q h = position-injective (fractionOf f) (exponentOf f) m n (h ∙ ap (λ (k : Format). patterns.positionOf (fractionOf k) (exponentOf k) n) (sym q))
+float-bits : (f g : Format) (m n : ℕ) → f ≡ g
+    → patterns.positionOf (fractionOf f) (exponentOf f) m ≡ patterns.positionOf (fractionOf g) (exponentOf g) n → m ≡ n
+float-bits f g m n q h =
+    position-injective (fractionOf f) (exponentOf f) m n (h ∙ ap (λ (k : Format). patterns.positionOf (fractionOf k) (exponentOf k) n) (sym q))
 
 same-position : (a b : Value) → kindOf a ≡ kindOf b → positionOf a ≡ positionOf b → Whole a ⊎ Floating a → Whole b ⊎ Floating b → bitsOf a ≡ bitsOf b
 same-position a b k h (inl s) (inl t) = ap bitsOf (whole-same a b s t k h)
@@ -103,7 +105,8 @@ less-floats f g m n q h =
     ap (λ (j : Format). orderZ (patterns.positionOf (fractionOf f) (exponentOf f) m) (patterns.positionOf (fractionOf j) (exponentOf j) n)) (sym q)
     ∙ less-position (fractionOf f) (exponentOf f) m n (infinity-positive f) (patterns-order f m n ∙ k)
 
-less-agrees : (a b : Value) → kindOf a ≡ kindOf b → orderOf (numberOf a) (numberOf b) ≡ Less → Whole a ⊎ Floating a → Whole b ⊎ Floating b → orderZ (positionOf a) (positionOf b) ≡ Less
+less-agrees : (a b : Value) → kindOf a ≡ kindOf b → orderOf (numberOf a) (numberOf b) ≡ Less → Whole a ⊎ Floating a
+    → Whole b ⊎ Floating b → orderZ (positionOf a) (positionOf b) ≡ Less
 less-agrees a b k h (inl s) (inl t) = sym (positions-order a b s t) ∙ h
 less-agrees a b k h (inl s) (inr t) = absurd (t .not-whole (other-whole a b k s))
 less-agrees a b k h (inr s) (inl t) = absurd (s .not-whole (other-whole b a (sym k) t))
@@ -111,7 +114,9 @@ less-agrees a b k h (inr s) (inr t) =
     ap (λ c. orderZ (positionIn c) (positionOf b)) (s .content)
     ∙ ap (λ c. orderZ (positionIn (real (s .format) (s .number) (s .word))) (positionIn c)) (t .content)
     ∙ less-floats (s .format) (t .format) _ _ (one-format a b s t k)
-    (sym (ap (λ c. orderOf (exact.numberOf (exactIn c)) (numberOf b)) (s .content) ∙ ap (λ c. orderOf (exact.numberOf (exactIn (real (s .format) (s .number) (s .word)))) (exact.numberOf (exactIn c))) (t .content)) ∙ h)
+    (sym (ap (λ c. orderOf (exact.numberOf (exactIn c)) (numberOf b)) (s .content)
+    ∙ ap (λ c. orderOf (exact.numberOf (exactIn (real (s .format) (s .number) (s .word)))) (exact.numberOf (exactIn c))) (t .content))
+    ∙ h)
 
 pub less-total : (a b : Value) → compareOf a b ≡ gives Less → totalOf a b ≡ gives Less
 less-total a b h =

@@ -52,7 +52,11 @@ pub record Strict (test : Value → Value → Outcome Bool) : Type 0 where
 module _ (test : Value → Value → Outcome Bool) (strict : Strict test) where
   -- a number that nothing before it passes the test against
   found-last : (p : List Value) (v : Value) → unlikeItself v ≡ false → any (λ u. says (test u v)) p ≡ false → Best test (p ++ (v ∷ [])) (Is v)
-  found-last p v n h = (n, (length p, rw (length-append p (v ∷ [])) (omega arith), getD-append-seam p v [] v), any-behind (λ u. says (test u v)) p v h (strict .irreflexive v))
+  found-last p v n h = (
+    n,
+    (length p, rw (length-append p (v ∷ [])) (omega arith), getD-append-seam p v [] v),
+    any-behind (λ u. says (test u v)) p v h (strict .irreflexive v),
+  )
 
   best-step : (p : List Value) (f : Found) (v : Value) → Best test p f → Best test (p ++ (v ∷ [])) (betterOf test f v)
   best-step p Nothing v h = go (unlikeItself v) refl
@@ -104,7 +108,8 @@ never-less a h = clash (let q = sym h ∙ turned-order a a Less h in cc)
 
 -- what is less than something, or that something is less than, is a number
 no-nan : (a b : Value) (o : Order) → compareOf a b ≡ gives o → (o ≡ Unordered → ⊥) → unlikeItself a ≡ false
-no-nan a b o h k = ap (λ r. says (mapped isNotEqual r)) (number-equal a a refl refl (λ q. k (sym (compared-order a b o h .1) ∙ ap (λ n. orderOf n (numberOf b)) q)))
+no-nan a b o h k = ap (λ r. says (mapped isNotEqual r))
+    (number-equal a a refl refl (λ q. k (sym (compared-order a b o h .1) ∙ ap (λ n. orderOf n (numberOf b)) q)))
 
 said-not : (t : Bool) → (t ≡ true → ⊥) → t ≡ false
 said-not true h = absurd (h refl)
@@ -121,6 +126,7 @@ pub higher-strict : Strict gtOf
 higher-strict = record {
   irreflexive = λ a. said-not (says (gtOf a a)) (λ q. never-less a (turned-order a a Greater (greater-said (compareOf a a) q)));
   transitive = λ u v a h k. ap (λ o. says (mapped isGreater o))
-      (turned-order a u Less (less-transitive a v u (turned-order v a Greater (greater-said (compareOf v a) k)) (turned-order u v Greater (greater-said (compareOf u v) h))));
+      (turned-order a u Less
+      (less-transitive a v u (turned-order v a Greater (greater-said (compareOf v a) k)) (turned-order u v Greater (greater-said (compareOf u v) h))));
   number = λ v a h. no-nan v a Greater (greater-said (compareOf v a) h) (λ q. clash cc);
 }

@@ -49,7 +49,8 @@ module _ (from to : Kind) where
 
 -- ---- the count and the answer of all samples
 
-first-then : (a : Rowed) (n : ℕ) (o : Outcome ℕ) (rest : Outcome Success) → andThen (rowedOutcome (firstOf a n o)) (λ d. rest) ≡ andThen (rowedOutcome a) (λ d. sampleThen n o rest)
+first-then : (a : Rowed) (n : ℕ) (o : Outcome ℕ) (rest : Outcome Success)
+    → andThen (rowedOutcome (firstOf a n o)) (λ d. rest) ≡ andThen (rowedOutcome a) (λ d. sampleThen n o rest)
 first-then rowed.Done n (gives b) rest = refl
 first-then rowed.Done n (refuses m p) rest = refl
 first-then (rowed.Refused f) n o rest = refl
@@ -115,7 +116,8 @@ module _ (to : Kind) (s : Seen) (v : Value) where
   next-sample h = noted-samples ∙ ap counted (add-one (s .samples)) ∙ mod-eq-of-lt h
 
 module _ (to : Kind) where
-  all-answer : (s : Seen) (vs : List Value) → s .samples + length vs < 2 ^ 64 → rowedOutcome (allNoted to s vs .answer) ≡ andThen (rowedOutcome (s .answer)) (λ d. rowAnswer (bitsTo to) (s .samples) vs)
+  all-answer : (s : Seen) (vs : List Value) → s .samples + length vs < 2 ^ 64
+      → rowedOutcome (allNoted to s vs .answer) ≡ andThen (rowedOutcome (s .answer)) (λ d. rowAnswer (bitsTo to) (s .samples) vs)
   unfolding allNoted rowAnswer
   all-answer s [] h = stays (rowedOutcome (s .answer))
   all-answer s (v ∷ vs) h =
@@ -136,7 +138,8 @@ module _ (from to : Kind) (p : List ℕ) (short : length p < 2 ^ 64) where
   all = allNoted to nothingSeen (samplesOf from p)
 
   -- what the counts are of all samples
-  counted-all : (count : Seen → ℕ) (test : Value → Bool) → ((s : Seen) (v : Value) → count (notedOf to s v) ≡ countIf (test v) (count s)) → count nothingSeen ≡ 0 → count all ≡ howMany test (samplesOf from p)
+  counted-all : (count : Seen → ℕ) (test : Value → Bool)
+      → ((s : Seen) (v : Value) → count (notedOf to s v) ≡ countIf (test v) (count s)) → count nothingSeen ≡ 0 → count all ≡ howMany test (samplesOf from p)
   counted-all count test step begun =
       all-counted to count test step nothingSeen (samplesOf from p) (rw begun few)
       ∙ ap (λ (n : ℕ). n + howMany test (samplesOf from p)) begun

@@ -39,7 +39,8 @@ given-first : (o : Outcome ℕ) (at : ℕ) → isRefused o ≡ false → rowed.D
 given-first (gives b) at h = refl
 given-first (refuses m p) at h = absurd (true≢false h)
 
-pub first-bad : (o : Outcome ℕ) (at : ℕ) {r : Rowed} {m : ℕ} → r ≡ rowed.Done → isRefused o ≡ true → m ≡ refusalNumber o → rowed.Refused (record { number = m; place = at }) ≡ firstOf r at o
+pub first-bad : (o : Outcome ℕ) (at : ℕ) {r : Rowed} {m : ℕ} → r ≡ rowed.Done → isRefused o ≡ true → m ≡ refusalNumber o
+    → rowed.Refused (record { number = m; place = at }) ≡ firstOf r at o
 first-bad o at p h q = ap (λ (k : ℕ). rowed.Refused (record { number = k; place = at })) q ∙ refused-first o at h ∙ sym (ap (λ (r : Rowed). firstOf r at o) p)
 
 pub first-good : (o : Outcome ℕ) (at : ℕ) {r : Rowed} → r ≡ rowed.Done → isRefused o ≡ false → r ≡ firstOf r at o
@@ -69,7 +70,8 @@ module _ (to : Kind) where
   unfolding allNoted
   noted-one s v = refl
 
-  pub noted-more : (s : Seen) (l : List Value) (i : ℕ) (d : Value) → i < length l → {v : Value} → getD l i d ≡ v → {seen : Seen} → seen ≡ allNoted to s (take i l) → notedOf to seen v ≡ allNoted to s (take (i + 1) l)
+  pub noted-more : (s : Seen) (l : List Value) (i : ℕ) (d : Value) → i < length l → {v : Value} → getD l i d ≡ v → {seen : Seen}
+      → seen ≡ allNoted to s (take i l) → notedOf to seen v ≡ allNoted to s (take (i + 1) l)
   noted-more s l i d h {v} q {seen} e =
       ap (λ (x : Seen). notedOf to x v) e
       ∙ ap (notedOf to (allNoted to s (take i l))) (sym q)

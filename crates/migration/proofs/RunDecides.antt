@@ -46,7 +46,8 @@ full-before turns true fault h = refl
 full-before turns false fault h = absurd (omega (arith, h))
 
 -- which has whole samples
-ends-whole : (from to : Kind) (block : List ℕ) (left turns : ℕ) (fault : Fault) → left ≡ turnsLeft turns (eqb (length block) (blockBytes from to)) fault → 0 < left → leftOf from block ≡ 0
+ends-whole : (from to : Kind) (block : List ℕ) (left turns : ℕ) (fault : Fault)
+    → left ≡ turnsLeft turns (eqb (length block) (blockBytes from to)) fault → 0 < left → leftOf from block ≡ 0
 ends-whole from to block left turns fault q h =
     let full = full-before turns (eqb (length block) (blockBytes from to)) fault (subst (λ (t : ℕ). 0 < t) q h) in
     ap (λ (n : ℕ). n % bytesOf from) (eqb-true _ _ full) ∙ block-room from to .0
@@ -64,18 +65,22 @@ front : (o : Outcome Success) (output old : List ℕ) (k : ℕ) → (o ≡ gives
 front (gives done) output old k h = sym (take-at output (drop (length output) old) k (h refl))
 front (refuses m p) output old k h = refl
 
-same-reached : {n m : ℕ} {a b : Outcome Success} {x y : List ℕ} → n ≡ m → a ≡ b → x ≡ y → _≡_ {A = Reached} (record { samples = n; answer = a; output = x }) (record { samples = m; answer = b; output = y })
+same-reached : {n m : ℕ} {a b : Outcome Success} {x y : List ℕ} → n ≡ m → a ≡ b → x ≡ y
+    → _≡_ {A = Reached} (record { samples = n; answer = a; output = x }) (record { samples = m; answer = b; output = y })
 same-reached p q r = rw (p, q, r) refl
 
 module _ (from to : Kind) where
   module _ (block : List ℕ) (small : length block ≤ blockBytes from to) where
     fits : countOf from block ≤ bufferBytes / bytesOf to
-    fits = le-div-iff-mul-le (bytes-range to .0) .1 (fewer-room (length block) (blockBytes from to) (bytesOf from) (bytesOf to) (bytes-range from .0) small (block-room from to .1))
+    fits = le-div-iff-mul-le (bytes-range to .0) .1
+        (fewer-room (length block) (blockBytes from to) (bytesOf from) (bytesOf to) (bytes-range from .0) small (block-room from to .1))
 
-    output-length : (n : ℕ) (o : Outcome Success) → stepAnswer from to n o block bufferBytes ≡ gives done → length (outputOf from to block) ≡ countOf from block * bytesOf to
+    output-length : (n : ℕ) (o : Outcome Success) → stepAnswer from to n o block bufferBytes ≡ gives done
+        → length (outputOf from to block) ≡ countOf from block * bytesOf to
     unfolding stepAnswer outputOf
     output-length n o h =
-        let inside : blockAnswer from to block bufferBytes ≡ gives done = given-inside (not (eqb (leftOf from block) 0)) n (stepSamples from n block) o (blockAnswer from to block bufferBytes) h in
+        let inside : blockAnswer from to block bufferBytes ≡ gives done =
+        given-inside (not (eqb (leftOf from block) 0)) n (stepSamples from n block) o (blockAnswer from to block bufferBytes) h in
         let given : rowAnswer (bitsTo to) 0 (samplesOf from block) ≡ gives done = sym (past-room from to block bufferBytes fits) ∙ inside in
         length-bytes to (rowResults (bitsTo to) (samplesOf from block))
         ∙ ap (λ (m : ℕ). m * bytesOf to) (results-length (bitsTo to) 0 (samplesOf from block) given ∙ length-samples from (countOf from block) block)
@@ -96,7 +101,8 @@ module _ (from to : Kind) where
 
     output : writtenBy answered (outputOf from to block) ≡ handed from to block out (next .progress .answer)
     output =
-        front answered (outputOf from to block) old (countOf from block * bytesOf to) (output-length block small (s .progress .samples) (rowedOutcome (s .progress .answer)))
+        front answered (outputOf from to block) old (countOf from block * bytesOf to)
+        (output-length block small (s .progress .samples) (rowedOutcome (s .progress .answer)))
         ∙ ap (λ (l : List ℕ). writtenBy answered (take (countOf from block * bytesOf to) l)) (sym left-in)
         ∙ ap (λ (o : Outcome Success). writtenBy o (take (countOf from block * bytesOf to) out)) answer
 
@@ -108,7 +114,8 @@ module _ (from to : Kind) where
 
   step-stands : (m next : Moving) (b : List ℕ) → MovesBlock from to m b next → stepped from to bufferBytes (standing m) b ≡ standing next
   step-stands m next b (small, old, out, moved, behind) =
-      same-reached (sym (moved .1 .0)) (answer (m .state) (next .state) b old out small moved) (ap (λ (l : List ℕ). m .written ++ l) (output (m .state) (next .state) b old out small moved) ∙ sym behind)
+      same-reached (sym (moved .1 .0)) (answer (m .state) (next .state) b old out small moved)
+      (ap (λ (l : List ℕ). m .written ++ l) (output (m .state) (next .state) b old out small moved) ∙ sym behind)
 
   fail-stands : (m next : Moving) → MoveFails m next → standing m ≡ standing next
   fail-stands m next (failed, same) = same-reached (ap (λ p. p .samples) (sym (failed .0))) (ap (λ p. rowedOutcome (p .answer)) (sym (failed .0))) (sym same)
@@ -135,13 +142,20 @@ in-parts from (not-last b bs p q rest) = parts.more b bs q (in-parts from rest)
 
 pub run-decides : RunDecides
 run-decides from to bs m ran short =
-    let shaped = blocks from to (shape (λ s next b t. fits from to b (t .0)) (λ s next b t h. ends-whole from to b (next .state .turns) (s .state .turns) (next .state .fault) (t .3 .3) h) (λ s next f. f .0 .2) ran) in
-    let led : runOf from to bufferBytes begun bs ≡ standing from to m = sym (run-folded from to bs begun) ∙ leads (stepped from to bufferBytes) (standing from to) (step-stands from to) (fail-stands from to) ran in
+    let shaped = blocks from to
+    (shape (λ s next b t. fits from to b (t .0))
+    (λ s next b t h. ends-whole from to b (next .state .turns) (s .state .turns) (next .state .fault) (t .3 .3) h) (λ s next f. f .0 .2) ran) in
+    let led : runOf from to bufferBytes begun bs ≡ standing from to m =
+    sym (run-folded from to bs begun) ∙ leads (stepped from to bufferBytes) (standing from to) (step-stands from to) (fail-stands from to) ran in
     subst (λ (x : Reached). (x .samples ≡ countOf from (joined bs)) × (mapped (λ d. x .output) (x .answer) ≡ migrateOf from to (joined bs))) led
     (blocks-decide from to bufferBytes bs shaped short)
 
 pub look-decides : LookDecides
 look-decides from to bs r looked short =
-    let shaped = in-parts from (shape (λ s next b t. tt) (λ s next b t h. ends-whole from from b (next .turns) (s .turns) Nothing (t .1 .2) h) (λ s next f. f .2) looked) in
-    let led : lookOf from to nothingSeen (joined bs) ≡ r .seen = sym (looks-decide from to bs shaped short .0) ∙ sym (looked-folded from to bs nothingSeen) ∙ leads (lookOf from to) (λ s. s .seen) (λ s next b t. sym (t .1 .0)) (λ s next f. sym (f .0)) looked in
+    let shaped = in-parts from
+    (shape (λ s next b t. tt) (λ s next b t h. ends-whole from from b (next .turns) (s .turns) Nothing (t .1 .2) h) (λ s next f. f .2) looked) in
+    let led : lookOf from to nothingSeen (joined bs) ≡ r .seen =
+    sym (looks-decide from to bs shaped short .0)
+    ∙ sym (looked-folded from to bs nothingSeen)
+    ∙ leads (lookOf from to) (λ s. s .seen) (λ s next b t. sym (t .1 .0)) (λ s next f. sym (f .0)) looked in
     subst (parts.Tells from to (joined bs)) led (looks-decide from to bs shaped short .1)

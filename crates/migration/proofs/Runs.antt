@@ -25,10 +25,14 @@ module _ (from to : Kind) where
 
   -- a turn leads on
   pub next-turn : (s next : State) (buffer old out : List ℕ) → Reaches s → 0 < s .turns → Stepped from to s buffer old out next → Reaches next
-  next-turn s next buffer old out (bs, written, ran) some (inl failed) = (bs, written, fails bs (record { state = s; written = written }) (record { state = next; written = written }) ran some (failed .0, refl))
+  next-turn s next buffer old out (bs, written, ran) some (inl failed) =
+      (bs, written, fails bs (record { state = s; written = written }) (record { state = next; written = written }) ran some (failed .0, refl))
   next-turn s next buffer old out (bs, written, ran) some (inr (block, into, moved)) =
-      let more = written ++ handed from to block out (next .progress .answer) in
-      (bs ++ (block ∷ []), more, takes bs (record { state = s; written = written }) (record { state = next; written = more }) block ran some (into .1, old, out, moved, refl))
+      let more = written ++ handed from to block out (next .progress .answer) in (
+        bs ++ (block ∷ []),
+        more,
+        takes bs (record { state = s; written = written }) (record { state = next; written = more }) block ran some (into .1, old, out, moved, refl),
+      )
 
   abbrev pub LooksTo : Look → Type 0
   LooksTo s = (bs : List (List ℕ)) × LookedThrough from to bs s

@@ -22,7 +22,8 @@ abbrev pub Fit : ℕ → ℕ → ℕ → Type 0
 Fit n u w = (n ≡ blockSamples u w) × BothHold n u w
 
 -- what is asked of their bytes
-pub samples-room : (n u w : ℕ) → 0 < u → Fit n u w → (n * u ≡ blockSamples u w * u) × ((0 < n * u) × ((n * u % u ≡ 0) × ((n * u ≤ bufferBytes) × (n * u / u * w ≤ bufferBytes))))
+pub samples-room : (n u w : ℕ) → 0 < u → Fit n u w
+    → (n * u ≡ blockSamples u w * u) × ((0 < n * u) × ((n * u % u ≡ 0) × ((n * u ≤ bufferBytes) × (n * u / u * w ≤ bufferBytes))))
 samples-room n u w some fit = (
   ap (λ (k : ℕ). k * u) (fit .0),
   (mul-pos (fit .1 .0) some, (mul-mod-left n u, (fit .1 .1, rw (mul-div-cancel n some) (fit .1 .2)))),

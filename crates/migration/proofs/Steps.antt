@@ -26,5 +26,6 @@ module _ (from to : Kind) (buffer : List ℕ) (n : ℕ) (inside : n ≤ length b
   read-into size asked h = (sym (ap (λ (k : ℕ). take k buffer) many), rw (many, ← asked) h)
 
   -- whether it is full decides if the run goes on
-  pub by-size : (t turns : ℕ) (full : Bool) (fault : Fault) → t ≡ turnsLeft turns full fault → full ≡ eqb n (blockBytes from to) → t ≡ turnsLeft turns (eqb (length (take n buffer)) (blockBytes from to)) fault
+  pub by-size : (t turns : ℕ) (full : Bool) (fault : Fault) → t ≡ turnsLeft turns full fault → full ≡ eqb n (blockBytes from to)
+      → t ≡ turnsLeft turns (eqb (length (take n buffer)) (blockBytes from to)) fault
   by-size t turns full fault p f = p ∙ ap (λ (b : Bool). turnsLeft turns b fault) (f ∙ sym (ap (λ (k : ℕ). eqb k (blockBytes from to)) many))

@@ -41,7 +41,8 @@ kinds-shape (x ∷ xs) (y ∷ ys) h =
 
 module _ (a b : Record) where
   pub compared-records : (o : Order) → compareOf a b ≡ gives o
-      → (badCount (a .count) ≡ false) × (badCount (b .count) ≡ false) × (kindsOf (fieldsOf a) ≡ kindsOf (fieldsOf b)) × (lexicalOf (fieldsOf a) (fieldsOf b) ≡ o)
+      → (badCount (a .count) ≡ false) × (badCount (b .count) ≡ false) × (kindsOf (fieldsOf a) ≡ kindsOf (fieldsOf b))
+      × (lexicalOf (fieldsOf a) (fieldsOf b) ≡ o)
   unfolding compareOf
   compared-records o h =
       let past-11 = refuse-passes (badCount (a .count) || badCount (b .count)) 11 0 _ o h in

@@ -53,7 +53,9 @@ module _ (a b : Record) where
 
     module _ (ta : Twelve a) (tb : Twelve b) (h : at < count) (hc : count ≤ 12)
         {m n : ℕ} (u : m ≡ kindNumber (kindOf (valueAt (a .fields) at))) (v : n ≡ kindNumber (kindOf (valueAt (b .fields) at))) where
-      step : shapesDiffer (leftIn a at (count - at)) (leftIn b at (count - at)) ≡ (kindsDiffer (valueAt (a .fields) at) (valueAt (b .fields) at) || shapesDiffer (leftIn a (at + 1) (count - at - 1)) (leftIn b (at + 1) (count - at - 1)))
+      step : shapesDiffer (leftIn a at (count - at)) (leftIn b at (count - at))
+          ≡ (kindsDiffer (valueAt (a .fields) at) (valueAt (b .fields) at) || shapesDiffer (leftIn a (at + 1) (count - at - 1))
+          (leftIn b (at + 1) (count - at - 1)))
       step = shapes-step a b at (count - at) ta tb (λ z. omega arith) (omega arith)
 
       pub differ-here : (m ≡ n → ⊥) → true ≡ whole

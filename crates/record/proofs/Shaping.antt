@@ -30,8 +30,10 @@ one-more r at {k} t h q =
     let e : 12 - at ≡ suc (12 - (at + 1)) = omega arith in
     let so-far = map placeFor (kindsOf (take at (r .fields))) in
     let rest = replicate (12 - (at + 1)) (placeFor kind.U8) in
-    let put : set (so-far ++ placeFor kind.U8 ∷ rest) at (placeFor k) ≡ so-far ++ placeFor k ∷ rest = set-at so-far (placeFor kind.U8) rest (placeFor k) at (places-so-far (r .fields) at (omega arith)) in
-    let more : map placeFor (kindsOf (take (at + 1) (r .fields))) ≡ so-far ++ (placeFor k ∷ []) = rw (add-one at, take-suc (r .fields) at (fieldFor (U8 0)) (omega arith), map-append, map-append, q) in
+    let put : set (so-far ++ placeFor kind.U8 ∷ rest) at (placeFor k) ≡ so-far ++ placeFor k ∷ rest =
+    set-at so-far (placeFor kind.U8) rest (placeFor k) at (places-so-far (r .fields) at (omega arith)) in
+    let more : map placeFor (kindsOf (take (at + 1) (r .fields))) ≡ so-far ++ (placeFor k ∷ []) =
+    rw (add-one at, take-suc (r .fields) at (fieldFor (U8 0)) (omega arith), map-append, map-append, q) in
     rw (e, more) (put ∙ sym (append-snoc so-far (placeFor k) rest))
 
 pub filled : (r : Record) (at : ℕ) (ps : List Place) → Twelve r → r .count ≤ 12 → at ≡ r .count → ps ≡ placesFrom at (kindsOf (take at (r .fields)))

@@ -34,7 +34,8 @@ twelve r h = simp length-map at h
 abbrev pub leftIn : Record → ℕ → ℕ → List Field
 leftIn r at left = take left (drop at (r .fields))
 
-left-cons : (l : List Field) (at left : ℕ) → (left ≡ 0 → ⊥) → at < length l → take left (drop at l) ≡ fieldFor (valueAt l at) ∷ take (left - 1) (drop (at + 1) l)
+left-cons : (l : List Field) (at left : ℕ) → (left ≡ 0 → ⊥) → at < length l
+    → take left (drop at l) ≡ fieldFor (valueAt l at) ∷ take (left - 1) (drop (at + 1) l)
 left-cons l at zero some h = absurd (some refl)
 left-cons l at (suc n) some h = rw (add-one at, sub-one (suc n), drop-cons l at (fieldFor (U8 0)) h)
 
@@ -46,7 +47,8 @@ stops at Greater p h = rw (add-zero at)
 stops at Unordered p h = rw (add-zero at)
 
 -- with no field left all were Equal
-pub decided-equal : (a b : Record) (at left : ℕ) → left ≡ 0 → _≡_ {A = Decision} (record { order = Equal; at = at }) (decisionFrom at (leftIn a at left) (leftIn b at left))
+pub decided-equal : (a b : Record) (at left : ℕ) → left ≡ 0
+    → _≡_ {A = Decision} (record { order = Equal; at = at }) (decisionFrom at (leftIn a at left) (leftIn b at left))
 unfolding lexicalOf decidingOf
 decided-equal a b at left h = rw (h, add-zero at)
 
@@ -60,13 +62,15 @@ module _ (a b : Record) (at left : ℕ) (ta : Twelve a) (tb : Twelve b) (some : 
   shapes-step = rw (here a ta, here b tb)
 
   one-shape : shapesDiffer (leftIn a at left) (leftIn b at left) ≡ false
-      → (kindsDiffer (valueAt (a .fields) at) (valueAt (b .fields) at) ≡ false) × (shapesDiffer (leftIn a (at + 1) (left - 1)) (leftIn b (at + 1) (left - 1)) ≡ false)
+      → (kindsDiffer (valueAt (a .fields) at) (valueAt (b .fields) at) ≡ false)
+      × (shapesDiffer (leftIn a (at + 1) (left - 1)) (leftIn b (at + 1) (left - 1)) ≡ false)
   one-shape s = neither (kindsDiffer (valueAt (a .fields) at) (valueAt (b .fields) at)) _ (sym shapes-step ∙ s)
 
   pub kinds-here : shapesDiffer (leftIn a at left) (leftIn b at left) ≡ false → kindsDiffer (valueAt (a .fields) at) (valueAt (b .fields) at) ≡ false
   kinds-here s = one-shape s .0
 
-  pub shape-behind : shapesDiffer (leftIn a at left) (leftIn b at left) ≡ false → shapesDiffer (leftIn a (at + 1) (left - 1)) (leftIn b (at + 1) (left - 1)) ≡ false
+  pub shape-behind : shapesDiffer (leftIn a at left) (leftIn b at left) ≡ false
+      → shapesDiffer (leftIn a (at + 1) (left - 1)) (leftIn b (at + 1) (left - 1)) ≡ false
   shape-behind s = one-shape s .1
 
   -- the field here is Equal, and those behind it decide

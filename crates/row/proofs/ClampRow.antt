@@ -49,9 +49,12 @@ module _ (range : Range) (hl : T (fits binary32 (range .lower))) (hu : T (fits b
       pub clamp-row-refused : at < length row → (refuses 8 at ≡ clampAnswer range row) × (row ≡ clampExit range row)
       unfolding clampAnswer clampExit
       clamp-row-refused l =
-          sample-refused (sampleOf range) isNotSelf (clampedFloat (range .lower) (range .upper)) (λ x. T (fits binary32 x)) nan good outOfOrder 6 row row (by-operator b) all at at-is l 8 0 (bad (getD row at nan) (all at l) (first-hit isNotSelf row at nan at-is l))
+          sample-refused (sampleOf range) isNotSelf (clampedFloat (range .lower) (range .upper)) (λ x. T (fits binary32 x)) nan
+          good outOfOrder 6 row row (by-operator b) all at at-is l 8 0 (bad (getD row at nan) (all at l) (first-hit isNotSelf row at nan at-is l))
 
-      pub clamp-row-done : (now : List Float) → length row ≤ at → now ≡ map (clampedFloat (range .lower) (range .upper)) row → (gives done ≡ clampAnswer range row) × (now ≡ clampExit range row)
+      pub clamp-row-done : (now : List Float) → length row ≤ at → now ≡ map (clampedFloat (range .lower) (range .upper)) row
+          → (gives done ≡ clampAnswer range row) × (now ≡ clampExit range row)
       unfolding clampAnswer clampExit
       clamp-row-done now l q =
-          all-done (sampleOf range) isNotSelf (clampedFloat (range .lower) (range .upper)) (λ x. T (fits binary32 x)) nan good outOfOrder 6 row row (by-operator b) all at at-is refl now l q
+          all-done (sampleOf range) isNotSelf (clampedFloat (range .lower) (range .upper)) (λ x. T (fits binary32 x)) nan good
+          outOfOrder 6 row row (by-operator b) all at at-is refl now l q

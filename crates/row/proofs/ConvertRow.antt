@@ -36,6 +36,7 @@ module _ {A B : Type 0} (conv : A → Outcome B) (src : List A) (dst : List B) w
     convert-done = all-done conv test f P d good lengthsDiffer 9 src dst (ap not (eq-eqb _ _ same)) all at at-is same
 
   -- where no sample is refused
-  pub always-done : (f : A → B) (P : A → Type 0) (d : A) → ((x : A) → P x → conv x ≡ gives (f x)) → length src ≡ length dst → ((i : ℕ) → i < length src → P (getD src i d))
+  pub always-done : (f : A → B) (P : A → Type 0) (d : A) → ((x : A) → P x → conv x ≡ gives (f x)) → length src ≡ length dst
+      → ((i : ℕ) → i < length src → P (getD src i d))
       → (now : List B) → now ≡ map f src → Answers (gives done) now
   always-done f P d good same all now q = convert-done (λ x. false) f P d (λ x p t. good x p) same all (length src) (sym (first-never src)) now (omega arith) q

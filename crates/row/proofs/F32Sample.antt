@@ -53,7 +53,8 @@ any-word x w = ap (λ (X : Exact). mapped bitsOf (intoOf kind.U16 (times (stepOf
 module _ (x : Float) where
   by-exact : {X : Exact} → exactOf x ≡ X → f32ToU16 x ≡ mapped bitsOf (intoOf kind.U16 (times (stepOf binary32) X))
   unfolding f32ToU16 convertOf intoOf
-  by-exact q = ap (λ (b : ℕ). mapped bitsOf (intoOf kind.U16 (times (stepOf binary32) (patternOf 23 8 b)))) (bits-are x) ∙ ap (λ (X : Exact). mapped bitsOf (intoOf kind.U16 (times (stepOf binary32) X))) q
+  by-exact q = ap (λ (b : ℕ). mapped bitsOf (intoOf kind.U16 (times (stepOf binary32) (patternOf 23 8 b)))) (bits-are x)
+      ∙ ap (λ (X : Exact). mapped bitsOf (intoOf kind.U16 (times (stepOf binary32) X))) q
 
   pub nan-refused : exactOf x ≡ notNumber → f32ToU16 x ≡ refuses 1 0
   unfolding intoOf
@@ -65,7 +66,8 @@ module _ (x : Float) where
 
   module _ (s : Bool) (a : ℕ) (q : exactOf x ≡ finite s a) where
     pub fraction-refused : ((n : ℕ) → a ≡ n * 2 ^ 149 → ⊥) → f32ToU16 x ≡ refuses 3 0
-    fraction-refused h = by-exact q ∙ ap (mapped bitsOf) (into-fraction kind.U16 16 refl s (a * stepOf binary32) (λ r. h (a * stepOf binary32 / unit) (whole-steps r)))
+    fraction-refused h = by-exact q
+        ∙ ap (mapped bitsOf) (into-fraction kind.U16 16 refl s (a * stepOf binary32) (λ r. h (a * stepOf binary32 / unit) (whole-steps r)))
       where
         whole-steps : a * stepOf binary32 % unit ≡ 0 → a ≡ a * stepOf binary32 / unit * 2 ^ 149
         whole-steps r =

@@ -36,7 +36,8 @@ module _ (f : Format) (x : Float) (s : Bool) (a : ℕ) (h : T (fits f x)) where
   pub pattern-value : patternOf (fractionOf f) (exponentOf f) (toBits f x) ≡ finite s a → HasValue x s a (2 ^ low f)
   pattern-value q = value-means f s a (float-means f x h) q
 
-pub bits-value : (f : Format) (b : ℕ) (s : Bool) (a : ℕ) → b < 2 * top f → patternOf (fractionOf f) (exponentOf f) b ≡ finite s a → HasValue (ofBits f b) s a (2 ^ low f)
+pub bits-value : (f : Format) (b : ℕ) (s : Bool) (a : ℕ) → b < 2 * top f → patternOf (fractionOf f) (exponentOf f) b ≡ finite s a
+    → HasValue (ofBits f b) s a (2 ^ low f)
 bits-value f b s a h q = value-means f s a (pattern-means f b h) q
 
 -- a whole number over 1 and over any other k

@@ -49,14 +49,17 @@ module _ (abs : ℕ) (small : abs < 0x4b00_0000) where
   below-infinity = rw plain-bits (omega arith)
 
   plain-value : HasValue (ofBits binary32 abs) false (magOf 23 abs) (2 ^ 149)
-  plain-value = bits-value binary32 abs false (magOf 23 abs) (omega arith) (pattern-finite 23 8 abs below-infinity ∙ cc (plain-bits, lt-leb (2 ^ 31) abs (omega arith)))
+  plain-value = bits-value binary32 abs false (magOf 23 abs) (omega arith)
+      (pattern-finite 23 8 abs below-infinity ∙ cc (plain-bits, lt-leb (2 ^ 31) abs (omega arith)))
 
   -- the test on it
   small-whole : isWhole (ofBits binary32 abs) ≡ true → (n : ℕ) × (magOf 23 abs ≡ n * 2 ^ 149)
-  small-whole = whole-found (ofBits binary32 abs) false (magOf 23 abs) (ofBits-fits binary32 abs) plain-value (λ q. absurd (true≢false (sym q))) (below-large 23 149 abs small)
+  small-whole = whole-found (ofBits binary32 abs) false (magOf 23 abs) (ofBits-fits binary32 abs) plain-value
+      (λ q. absurd (true≢false (sym q))) (below-large 23 149 abs small)
 
   small-passes : (n : ℕ) → magOf 23 abs ≡ n * 2 ^ 149 → isWhole (ofBits binary32 abs) ≡ true
-  small-passes = whole-passes (ofBits binary32 abs) false (magOf 23 abs) (ofBits-fits binary32 abs) plain-value (λ q. absurd (true≢false (sym q))) (below-large 23 149 abs small)
+  small-passes = whole-passes (ofBits binary32 abs) false (magOf 23 abs) (ofBits-fits binary32 abs) plain-value
+      (λ q. absurd (true≢false (sym q))) (below-large 23 149 abs small)
 
 -- ---- one sample
 
@@ -76,9 +79,11 @@ module _ (x : Float) (hx : T (fits binary32 x)) where
         let n = own .count in
         let l = own .small in
         let small : n + 0 < 2 ^ 24 = omega arith in
-        let v : HasValue x (own .sign) n 1 = over-one x (own .sign) n (2 ^ 149) (pow-pos 149) (pattern-value binary32 x (own .sign) (n * 2 ^ 149) hx (own .exact)) in
+        let v : HasValue x (own .sign) n 1 =
+        over-one x (own .sign) n (2 ^ 149) (pow-pos 149) (pattern-value binary32 x (own .sign) (n * 2 ^ 149) hx (own .exact)) in
         whole-unique binary32 (add binary32 x nought) (asF32 n) false n (add-fits binary32 x nought) (ofInt-fits binary32 (pos n))
-        (subst (λ (k : ℕ). HasValue (add binary32 x nought) false k 1) (add-zero n) (whole-sum binary32 x nought (own .sign) n 0 v nought-value (own .plus) small)) (cast-value n (omega arith))
+        (subst (λ (k : ℕ). HasValue (add binary32 x nought) false k 1) (add-zero n)
+        (whole-sum binary32 x nought (own .sign) n 0 v nought-value (own .plus) small)) (cast-value n (omega arith))
 
     back-cast : T (inUnsigned binary32 16 (asF32 (own .count))) × (toUnsigned 16 (asF32 (own .count)) ≡ own .count)
     unfolding inFloat
@@ -133,11 +138,13 @@ module _ (x : Float) (hx : T (fits binary32 x)) where
           refused-whole h = let w = small-whole abs small h in whole-refused (negativeOf 23 8 (toBits binary32 x)) (magOf 23 abs) (w .0) own-exact (w .1)
 
           pub refused-fraction : isWhole (ofBits binary32 abs) ≡ false → f32ToU16 x ≡ refuses 3 0
-          refused-fraction h = fraction-refused x (negativeOf 23 8 (toBits binary32 x)) (magOf 23 abs) own-exact (λ n w. true≢false (sym (small-passes abs small n w) ∙ h))
+          refused-fraction h = fraction-refused x (negativeOf 23 8 (toBits binary32 x)) (magOf 23 abs) own-exact
+              (λ n w. true≢false (sym (small-passes abs small n w) ∙ h))
 
 -- ---- a row of f32 to u16
 
-module _ (src : List Float) (dst : List ℕ) (same : length src ≡ length dst) (all : (i : ℕ) → i < length src → T (fits binary32 (getD src i nan))) (at : ℕ) (at-is : at ≡ first isMisfit src) where
+module _ (src : List Float) (dst : List ℕ) (same : length src ≡ length dst)
+    (all : (i : ℕ) → i < length src → T (fits binary32 (getD src i nan))) (at : ℕ) (at-is : at ≡ first isMisfit src) where
   pub whole-row-refused : at < length src → (m : ℕ) → f32ToU16 (getD src at nan) ≡ refuses m 0 → Answers f32ToU16 src dst (refuses m at) dst
   whole-row-refused l m = convert-refused f32ToU16 src dst isMisfit asU16 (λ x. T (fits binary32 x)) nan fit-given same all at at-is l m 0
 

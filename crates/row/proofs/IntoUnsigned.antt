@@ -43,7 +43,8 @@ module _ (to : Kind) (k : ℕ) (form : formOf to ≡ unsigned k) (s : Bool) wher
     unfolding intoOf
     into-outside h = simp (form, eq-eqb (n * unit % unit) 0 no-rest, all-units, h)
 
-    pub into-inside : ((x : Exact) → bitsOf (madeIn to x) ≡ magnitudeFor x) → outside 0 (2 ^ k - 1) s n ≡ false → mapped bitsOf (intoOf to (finite s (n * unit))) ≡ gives n
+    pub into-inside : ((x : Exact) → bitsOf (madeIn to x) ≡ magnitudeFor x) → outside 0 (2 ^ k - 1) s n ≡ false
+        → mapped bitsOf (intoOf to (finite s (n * unit))) ≡ gives n
     unfolding intoOf
     into-inside made h = simp (form, eq-eqb (n * unit % unit) 0 no-rest, all-units, h) (ap gives (made (finite s (n * unit)) ∙ all-units))
 
@@ -81,7 +82,8 @@ narrow-small n b q = go (isWide n) refl
 
 module _ (src dst : List ℕ) (same : length src ≡ length dst) (at : ℕ) (at-is : at ≡ first isWide src) where
   pub narrow-refused : at < length src → Answers u16ToU8 src dst (refuses 4 at) dst
-  narrow-refused l = convert-refused u16ToU8 src dst isWide (λ n. n) (λ n. Unit {0}) 0 (λ n t. u16-narrower n) same (λ i h. tt) at at-is l 4 0 (u16-wide (getD src at 0) (first-hit isWide src at 0 at-is l))
+  narrow-refused l = convert-refused u16ToU8 src dst isWide (λ n. n) (λ n. Unit {0}) 0 (λ n t. u16-narrower n) same (λ i h. tt) at
+      at-is l 4 0 (u16-wide (getD src at 0) (first-hit isWide src at 0 at-is l))
 
   pub narrow-done : (now : List ℕ) → length src ≤ at → now ≡ map (λ (n : ℕ). n) src → Answers u16ToU8 src dst (gives done) now
   narrow-done = convert-done u16ToU8 src dst isWide (λ n. n) (λ n. Unit {0}) 0 (λ n t. u16-narrower n) same (λ i h. tt) at at-is

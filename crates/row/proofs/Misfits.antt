@@ -74,7 +74,8 @@ module _ (x : Float) (hx : T (fits binary32 x)) where
   sample-in (infinite false) q h k w = absurd (true≢false (sym k ∙ to-last q))
   sample-in (finite s a) q h k w =
       let p : s ≡ true → a ≡ 0 = plus-or-zero s a (sym (from-zero q) ∙ h) in
-      let m : a ≤ 65535 * 2 ^ 149 = at-most a (65535 * 2 ^ 149) (ap (λ (z : ℤ). isLessOrEqual (orderZ z (pos (65535 * 2 ^ 149)))) (sym (unsigned-of s a p)) ∙ sym (to-last q) ∙ k) in
+      let m : a ≤ 65535 * 2 ^ 149 =
+      at-most a (65535 * 2 ^ 149) (ap (λ (z : ℤ). isLessOrEqual (orderZ z (pos (65535 * 2 ^ 149)))) (sym (unsigned-of s a p)) ∙ sym (to-last q) ∙ k) in
       let n = whole-found x s a hx (pattern-value binary32 x s a hx q) p (below-shift a m) w in
       record {
         sign = s;

@@ -20,13 +20,15 @@ module _ {A B : Type 0} (conv : A → Outcome B) (s : List A) where
   leftAfter old answer = lentAfter (λ (d : Success). rowResults conv s) answer old
 
   -- the rule of the whole row
-  pub row-ruled : (rule : Bool) (number : ℕ) (old : List B) → rule ≡ true → (refuses number 0 ≡ ruledAnswer rule number) × (old ≡ leftAfter old (ruledAnswer rule number))
+  pub row-ruled : (rule : Bool) (number : ℕ) (old : List B) → rule ≡ true
+      → (refuses number 0 ≡ ruledAnswer rule number) × (old ≡ leftAfter old (ruledAnswer rule number))
   row-ruled rule number old q =
       let o : ruledAnswer rule number ≡ refuses number 0 = ap (λ (b : Bool). ruledAnswer b number) q in
       (sym o, sym (refused-unchanged (λ (d : Success). rowResults conv s) old o))
 
 -- conv gives f of a sample that doesn't pass the test; P holds of every sample of the row
-module _ {A B : Type 0} (conv : A → Outcome B) (test : A → Bool) (f : A → B) (P : A → Type 0) (d : A) (good : (x : A) → P x → test x ≡ false → conv x ≡ gives (f x)) where
+module _ {A B : Type 0} (conv : A → Outcome B) (test : A → Bool) (f : A → B) (P : A → Type 0) (d : A)
+    (good : (x : A) → P x → test x ≡ false → conv x ≡ gives (f x)) where
   abbrev All : List A → Type 0
   All s = (i : ℕ) → i < length s → P (getD s i d)
 
@@ -36,14 +38,16 @@ module _ {A B : Type 0} (conv : A → Outcome B) (test : A → Bool) (f : A → 
   -- ---- the first sample that passes it is refused
 
   module _ (m p : ℕ) where
-    refused-step : (at : ℕ) (x : A) (xs : List A) → P x → (b : Bool) → test x ≡ b → cond b 0 (suc (first test xs)) < suc (length xs) → conv (getD (x ∷ xs) (cond b 0 (suc (first test xs))) d) ≡ refuses m p
+    refused-step : (at : ℕ) (x : A) (xs : List A) → P x → (b : Bool) → test x ≡ b
+        → cond b 0 (suc (first test xs)) < suc (length xs) → conv (getD (x ∷ xs) (cond b 0 (suc (first test xs))) d) ≡ refuses m p
         → (first test xs < length xs → conv (getD xs (first test xs) d) ≡ refuses m p → rowAnswer conv (suc at) xs ≡ refuses m (suc at + first test xs))
         → sampleThen at (conv x) (rowAnswer conv (suc at) xs) ≡ refuses m (at + cond b 0 (suc (first test xs)))
     refused-step at x xs u true q k bad rest = ap (λ o. sampleThen at o (rowAnswer conv (suc at) xs)) bad ∙ ap (λ (i : ℕ). refuses m i) (omega arith)
     refused-step at x xs u false q k bad rest =
         ap (λ o. sampleThen at o (rowAnswer conv (suc at) xs)) (good x u q) ∙ rest (omega arith) bad ∙ ap (λ (i : ℕ). refuses m i) (omega arith)
 
-    pub row-refused : (at : ℕ) (s : List A) → All s → first test s < length s → conv (getD s (first test s) d) ≡ refuses m p → rowAnswer conv at s ≡ refuses m (at + first test s)
+    pub row-refused : (at : ℕ) (s : List A) → All s → first test s < length s → conv (getD s (first test s) d) ≡ refuses m p
+        → rowAnswer conv at s ≡ refuses m (at + first test s)
     unfolding rowAnswer first
     row-refused at [] u h bad = absurd (not-suc-le-zero h)
     row-refused at (x ∷ xs) u h bad = refused-step at x xs (u 0 (omega arith)) (test x) refl h bad (row-refused (suc at) xs (tail x xs u))
@@ -66,7 +70,8 @@ module _ {A B : Type 0} (conv : A → Outcome B) (test : A → Bool) (f : A → 
     passed = ap (λ (b : Bool). ruledAnswer conv s b n) pass
 
     -- the sample decides with its own number
-    pub sample-refused : at < length s → (m p : ℕ) → conv (getD s at d) ≡ refuses m p → (refuses m at ≡ ruledAnswer conv s rule n) × (old ≡ leftAfter conv s old (ruledAnswer conv s rule n))
+    pub sample-refused : at < length s → (m p : ℕ) → conv (getD s at d) ≡ refuses m p
+        → (refuses m at ≡ ruledAnswer conv s rule n) × (old ≡ leftAfter conv s old (ruledAnswer conv s rule n))
     sample-refused l m p bad =
         let r = row-refused m p 0 s all (omega arith) (ap (λ (i : ℕ). conv (getD s i d)) (sym at-is) ∙ bad) in
         let o : ruledAnswer conv s rule n ≡ refuses m at = passed ∙ r ∙ ap (λ (i : ℕ). refuses m i) (zero-add (first test s) ∙ sym at-is) in

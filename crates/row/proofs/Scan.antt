@@ -40,7 +40,8 @@ module _ {A : Type 0} (test : A → Bool) where
   first-le (x ∷ xs) = first-within (test x) (first test xs) (length xs) (first-le xs)
 
   -- the sample where a scan stopped passes
-  stopped-at : (b : Bool) (x : A) (xs : List A) (d : A) (k n : ℕ) → test x ≡ b → cond b 0 (suc k) < suc n → (k < n → test (getD xs k d) ≡ true) → test (getD (x ∷ xs) (cond b 0 (suc k)) d) ≡ true
+  stopped-at : (b : Bool) (x : A) (xs : List A) (d : A) (k n : ℕ) → test x ≡ b → cond b 0 (suc k) < suc n
+      → (k < n → test (getD xs k d) ≡ true) → test (getD (x ∷ xs) (cond b 0 (suc k)) d) ≡ true
   stopped-at true x xs d k n q h r = q
   stopped-at false x xs d k n q h r = r (le-of-suc-le-suc h)
 
@@ -96,7 +97,8 @@ module _ {A : Type 0} (test : A → Bool) where
       let r = first-skip m xs (le-of-suc-le-suc h) (o .1) in
       simp (o .0) (omega arith)
 
-  pub reach-block : (m : ℕ) (s : List A) (i : ℕ) → i + m ≤ length s → any test (take m (drop i s)) ≡ false → first test s ≡ i + first test (drop i s) → first test s ≡ (i + m) + first test (drop (i + m) s)
+  pub reach-block : (m : ℕ) (s : List A) (i : ℕ) → i + m ≤ length s → any test (take m (drop i s)) ≡ false
+      → first test s ≡ i + first test (drop i s) → first test s ≡ (i + m) + first test (drop (i + m) s)
   reach-block m s i h g r =
       let l : m ≤ length (drop i s) = simp length-drop (omega arith) in
       let p : first test (drop i s) ≡ m + first test (drop (i + m) s) = first-skip m (drop i s) l g ∙ simp drop-drop in
@@ -118,7 +120,8 @@ module _ {A : Type 0} (test : A → Bool) where
   unfolding any
   any-more [] i d h = absurd (not-suc-le-zero h)
   any-more (x ∷ xs) zero d h = sym (or-none (test x))
-  any-more (x ∷ xs) (suc i) d h = or-last (test x) (any test (take i xs)) (test (getD xs i d)) ∙ ap (λ (b : Bool). test x || b) (any-more xs i d (le-of-suc-le-suc h))
+  any-more (x ∷ xs) (suc i) d h =
+      or-last (test x) (any test (take i xs)) (test (getD xs i d)) ∙ ap (λ (b : Bool). test x || b) (any-more xs i d (le-of-suc-le-suc h))
 
   -- the pass over a block has come to i
   pub any-step : (s : List A) (i : ℕ) (d : A) → i < length s → (any test (take i s) || test (getD s i d)) ≡ any test (take (i + 1) s)

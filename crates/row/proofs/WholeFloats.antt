@@ -37,7 +37,8 @@ shift-value = (refl, refl)
 
 -- ---- the language's tests on floats, by what their bits stand for
 
-module _ (x y : Float) (hx : T (fits binary32 x)) (hy : T (fits binary32 y)) {X Y : Exact} (px : patternOf 23 8 (toBits binary32 x) ≡ X) (py : patternOf 23 8 (toBits binary32 y) ≡ Y) where
+module _ (x y : Float) (hx : T (fits binary32 x)) (hy : T (fits binary32 y)) {X Y : Exact}
+    (px : patternOf 23 8 (toBits binary32 x) ≡ X) (py : patternOf 23 8 (toBits binary32 y) ≡ Y) where
   pub le-at : le x y ≡ isLessOrEqual (orderOf (numberOf X) (numberOf Y))
   unfolding compareOf
   le-at = le-is binary32 x y hx hy ∙ cc (px, py)
@@ -64,7 +65,8 @@ module _ (x : Float) (s : Bool) (a : ℕ) (hx : T (fits binary32 x)) (v : HasVal
   tested : isWhole x ≡ isEqual (orderZ (pos (back-value .0 * 2 ^ 149)) (pos a))
   tested =
       let q = back-value .0 in
-      let back-pattern = value-pattern binary32 back false (q * 2 ^ 149) (sub-fits binary32 (add binary32 x shift) shift) (over-more back false q (2 ^ 149) (back-value .1 .0)) in
+      let back-pattern = value-pattern binary32 back false (q * 2 ^ 149) (sub-fits binary32 (add binary32 x shift) shift)
+      (over-more back false q (2 ^ 149) (back-value .1 .0)) in
       eq-at back x (sub-fits binary32 (add binary32 x shift) shift) hx back-pattern (value-pattern binary32 x s a hx v)
       ∙ ap (λ (k : ℤ). isEqual (orderZ (pos (q * 2 ^ 149)) k)) (unsigned-of s a z)
 

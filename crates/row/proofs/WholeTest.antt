@@ -42,7 +42,9 @@ no-overflow f q h = lt-of-le-of-lt (le-trans (mul-le-mul-right (2 ^ low f) h) (l
 
 -- a whole number that the format counts is rounded to itself
 round-count : (f : Format) (q c : ℕ) → 0 < c → q < 2 ^ prec f → HasValue (round f false (q * c) c) false q 1
-round-count f q c z h = over-one (round f false (q * c) c) false q c z (round-exact f false (q * c) c q (low f) z h (no-overflow f q (omega arith)) (mul-right-comm q c (2 ^ low f)))
+round-count f q c z h =
+    over-one (round f false (q * c) c) false q c z
+    (round-exact f false (q * c) c q (low f) z h (no-overflow f q (omega arith)) (mul-right-comm q c (2 ^ low f)))
 
 -- ---- h + a / c, for a / c below h
 
@@ -66,15 +68,19 @@ module _ (f : Format) (a c : ℕ) (z : 0 < c) (below : a < hid f * c) where
       let p = two f in
       let j : suc (prec f - 1 + low f) ≡ prec f + low f = omega arith in
       let lo : 2 ^ (prec f - 1 + low f) ≤ shifted * 2 ^ low f / c = le-div-iff-mul-le z .1
-      (le-trans (le-of-eq (ap (λ (x : ℕ). x * c) (pow-add 2 (prec f - 1) (low f)) ∙ mul-right-comm (hid f) (2 ^ low f) c)) (mul-le-mul-right (2 ^ low f) (omega arith))) in
+      (le-trans (le-of-eq (ap (λ (x : ℕ). x * c) (pow-add 2 (prec f - 1) (low f)) ∙ mul-right-comm (hid f) (2 ^ low f) c))
+      (mul-le-mul-right (2 ^ low f) (omega arith))) in
       let hi : shifted * 2 ^ low f / c < 2 ^ suc (prec f - 1 + low f) = div-lt-iff-lt-mul z .1
-      (lt-of-lt-of-le (mul-lt-mul-of-pos-right under (pow-pos (low f))) (le-of-eq (mul-right-comm (2 ^ prec f) c (2 ^ low f) ∙ ap (λ (x : ℕ). x * c) (sym (pow-add 2 (prec f) (low f)) ∙ ap (λ (x : ℕ). 2 ^ x) (sym j))))) in
+      (lt-of-lt-of-le (mul-lt-mul-of-pos-right under (pow-pos (low f)))
+      (le-of-eq (mul-right-comm (2 ^ prec f) c (2 ^ low f) ∙ ap (λ (x : ℕ). x * c) (sym (pow-add 2 (prec f) (low f)) ∙ ap (λ (x : ℕ). 2 ^ x) (sym j))))) in
       omega (arith, size-is (shifted * 2 ^ low f / c) (prec f - 1 + low f) lo hi)
 
   on-grid : grid f shifted c ≡ rounded * 2 ^ low f
   on-grid =
       ap (λ (k : ℕ). closest (shifted * 2 ^ low f) (c * 2 ^ k) * 2 ^ k) dropped
-      ∙ ap (λ (q : ℕ). q * 2 ^ low f) (closest-same (shifted * 2 ^ low f) (c * 2 ^ low f) shifted c (mul-pos z (pow-pos (low f))) z (mul-assoc shifted (2 ^ low f) c ∙ ap (λ (x : ℕ). shifted * x) (mul-comm (2 ^ low f) c)))
+      ∙ ap (λ (q : ℕ). q * 2 ^ low f)
+      (closest-same (shifted * 2 ^ low f) (c * 2 ^ low f) shifted c (mul-pos z (pow-pos (low f))) z
+      (mul-assoc shifted (2 ^ low f) c ∙ ap (λ (x : ℕ). shifted * x) (mul-comm (2 ^ low f) c)))
 
   rounded-range : (hid f ≤ rounded) × (rounded ≤ 2 ^ prec f)
   rounded-range = (
@@ -120,7 +126,8 @@ common-pos : (e d : ℤ) → 0 < down e * down d
 common-pos e d = mul-pos (down-pos e) (down-pos d)
 
 -- whole numbers are added exactly
-pub whole-sum : (f : Format) (x h : Float) (s : Bool) (n k : ℕ) → HasValue x s n 1 → HasValue h false k 1 → (s ≡ true → n ≡ 0) → n + k < 2 ^ prec f → HasValue (add f x h) false (n + k) 1
+pub whole-sum : (f : Format) (x h : Float) (s : Bool) (n k : ℕ) → HasValue x s n 1 → HasValue h false k 1 → (s ≡ true → n ≡ 0)
+    → n + k < 2 ^ prec f → HasValue (add f x h) false (n + k) 1
 unfolding add
 whole-sum f (fin s m e) (fin true i d) t n k v w z l = absurd (true≢false (w .0))
 whole-sum f (fin s m e) (fin false i d) t n k v w z l =
@@ -133,7 +140,8 @@ whole-sum f (fin s m e) (fin false i d) t n k v w z l =
     (round-count f (n + k) c (common-pos e d) l)
 
 -- and taken from one another exactly
-whole-difference : (f : Format) (x h : Float) (n k : ℕ) → HasValue x false n 1 → HasValue h false k 1 → k ≤ n → n - k < 2 ^ prec f → HasValue (sub f x h) false (n - k) 1
+whole-difference : (f : Format) (x h : Float) (n k : ℕ) → HasValue x false n 1 → HasValue h false k 1 → k ≤ n → n - k < 2 ^ prec f
+    → HasValue (sub f x h) false (n - k) 1
 unfolding sub add neg sum
 whole-difference f (fin true m e) (fin t i d) n k v w g l = absurd (true≢false (v .0))
 whole-difference f (fin false m e) (fin true i d) n k v w g l = absurd (true≢false (w .0))
@@ -154,7 +162,8 @@ whole-difference f (fin false m e) (fin false i d) n k v w g l =
 -- a magnitude in steps is one over the float's own denominator
 module _ (l m : ℕ) (e : ℤ) (a : ℕ) (v : m * up e * 2 ^ l ≡ a * down e) where
   own-below : (k : ℕ) → a < k * 2 ^ l → m * up e < k * down e
-  own-below k h = lt-of-mul-lt-mul-right (2 ^ l) (lt-of-le-of-lt (le-of-eq v) (lt-of-lt-of-le (mul-lt-mul-of-pos-right h (down-pos e)) (le-of-eq (mul-right-comm k (2 ^ l) (down e)))))
+  own-below k h = lt-of-mul-lt-mul-right (2 ^ l)
+      (lt-of-le-of-lt (le-of-eq v) (lt-of-lt-of-le (mul-lt-mul-of-pos-right h (down-pos e)) (le-of-eq (mul-right-comm k (2 ^ l) (down e)))))
 
   own-whole : (n : ℕ) → a ≡ n * 2 ^ l → m * up e ≡ n * down e
   own-whole n q = eq-of-mul-eq-mul-right (2 ^ l) (pow-pos l) (m * up e) (n * down e) (v ∙ ap (λ (x : ℕ). x * down e) q ∙ mul-right-comm n (2 ^ l) (down e))
@@ -167,16 +176,19 @@ record Rounded (f : Format) (y : Float) (a : ℕ) : Type 0 where
   most : r ≤ 2 ^ prec f
   exact : (n : ℕ) → a ≡ n * 2 ^ low f → r ≡ n + hid f
 
-sum-rounded : (f : Format) (x h : Float) (s : Bool) (a : ℕ) → HasValue x s a (2 ^ low f) → HasValue h false (hid f) 1 → (s ≡ true → a ≡ 0) → a < hid f * 2 ^ low f → Rounded f (add f x h) a
+sum-rounded : (f : Format) (x h : Float) (s : Bool) (a : ℕ) → HasValue x s a (2 ^ low f) → HasValue h false (hid f) 1
+    → (s ≡ true → a ≡ 0) → a < hid f * 2 ^ low f → Rounded f (add f x h) a
 unfolding add
 sum-rounded f (fin s m e) (fin true i d) t a v w z l = absurd (true≢false (w .0))
 sum-rounded f (fin s m e) (fin false i d) t a v w z l =
     let c = down e * down d in
     let p = common-pos e d in
-    let b : m * up e * down d < hid f * c = lt-of-lt-of-le (mul-lt-mul-of-pos-right (own-below (low f) m e a (v .1) (hid f) l) (down-pos d)) (le-of-eq (mul-assoc (hid f) (down e) (down d))) in
+    let b : m * up e * down d < hid f * c =
+    lt-of-lt-of-le (mul-lt-mul-of-pos-right (own-below (low f) m e a (v .1) (hid f) l) (down-pos d)) (le-of-eq (mul-assoc (hid f) (down e) (down d))) in
     let whole : (n : ℕ) → a ≡ n * 2 ^ low f → m * up e * down d ≡ n * c = λ n q. left-over m e d n (mul-one (m * up e) ∙ own-whole (low f) m e a (v .1) n q) in
     let zero-side : s ≡ true → m * up e * down d ≡ 0 = λ q. whole 0 (z (sym (v .0) ∙ q) ∙ sym (zero-mul (2 ^ low f))) ∙ zero-mul c in
-    let sum-is = sum-positive f s (m * up e * down d) (i * up d * down e) c zero-side ∙ ap (λ (x : ℕ). round f false (m * up e * down d + x) c) (right-over i d e (hid f) (w .1)) in
+    let sum-is = sum-positive f s (m * up e * down d) (i * up d * down e) c zero-side
+    ∙ ap (λ (x : ℕ). round f false (m * up e * down d + x) c) (right-over i d e (hid f) (w .1)) in
     record {
       r = rounded f (m * up e * down d) c p b;
       value = subst (λ (y : Float). HasValue y false (rounded f (m * up e * down d) c p b) 1) (sym sum-is) (rounded-value f (m * up e * down d) c p b);
@@ -186,7 +198,8 @@ sum-rounded f (fin s m e) (fin false i d) t a v w z l =
     }
 
 -- so (x + h) - h is a whole number q, and x's own where x is whole
-pub back-again : (f : Format) (x h : Float) (s : Bool) (a : ℕ) → HasValue x s a (2 ^ low f) → HasValue h false (hid f) 1 → (s ≡ true → a ≡ 0) → a < hid f * 2 ^ low f
+pub back-again : (f : Format) (x h : Float) (s : Bool) (a : ℕ) → HasValue x s a (2 ^ low f) → HasValue h false (hid f) 1
+    → (s ≡ true → a ≡ 0) → a < hid f * 2 ^ low f
     → (q : ℕ) × (HasValue (sub f (add f x h) h) false q 1 × ((n : ℕ) → a ≡ n * 2 ^ low f → q ≡ n))
 back-again f x h s a v w z l =
     let t = sum-rounded f x h s a v w z l in

@@ -34,7 +34,8 @@ module _ {A B : Type 0} (f : A → B) where
   abbrev pub Written : List A → List B → List B → ℕ → Type 0
   Written s t now i = (i ≤ length s) × (now ≡ written (map f s) t i) × (length now ≡ length t)
 
-  pub write-step : (s : List A) (t now : List B) (i : ℕ) (d : A) (v : B) → i < length s → length s ≡ length t → Written s t now i → v ≡ f (getD s i d) → Written s t (set now i v) (i + 1)
+  pub write-step : (s : List A) (t now : List B) (i : ℕ) (d : A) (v : B) → i < length s → length s ≡ length t → Written s t now i
+      → v ≡ f (getD s i d) → Written s t (set now i v) (i + 1)
   write-step s t now i d v h n w e = (
     omega arith,
     ap (λ l. set l i v) (w .1)

@@ -42,7 +42,8 @@ module _ (src : List ℕ) (from width : ℕ) where
         let j = left - 1 in
         let e : suc j ≡ left = omega arith in
         let cell : getD part j 0 ≡ x = getD-take width (drop from src) j 0 (omega arith) ∙ getD-drop from src j 0 ∙ sym q in
-        let split : drop j part ≡ x ∷ drop left part = drop-cons part j 0 (omega (arith, part-length inside)) ∙ ap (λ (y : ℕ). y ∷ drop (suc j) part) cell ∙ ap (λ (i : ℕ). x ∷ drop i part) e in
+        let split : drop j part ≡ x ∷ drop left part =
+        drop-cons part j 0 (omega (arith, part-length inside)) ∙ ap (λ (y : ℕ). y ∷ drop (suc j) part) cell ∙ ap (λ (i : ℕ). x ∷ drop i part) e in
         (omega arith, ap (λ (m : ℕ). m * 256 + x) (g .1) ∙ sym (ap fromLittleEndian split), next-below)
 
   pub gather-end : (n left : ℕ) → left ≤ 0 → Gathered n left → n ≡ fromLittleEndian part

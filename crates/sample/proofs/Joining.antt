@@ -2,7 +2,8 @@
 use mathlib.Core.Path.{_≡_, refl, sym, _∙_, ap}
 use mathlib.Core.List.{List, [], _∷_, _++_}
 use Prim.Native.Nat.{ℕ, zero, suc, _+_, _*_, _/_, _%_, _^_, _≤_, _<_}
-use native.Mathlib.Nat.{zero-add, add-zero, add-comm, suc-add, suc-mul, zero-mul, zero-div, div-add-mod', div-le-self, add-mul-div-right, add-mul-mod-self-right, lt-of-le-of-lt}
+use native.Mathlib.Nat.{zero-add, add-zero, add-comm, suc-add, suc-mul, zero-mul, zero-div, div-add-mod', div-le-self, add-mul-div-right}
+use native.Mathlib.Nat.{add-mul-mod-self-right, lt-of-le-of-lt}
 use native.Mathlib.Omega.{arith}
 use lib.ListN.{length, drop, length-append, length-drop}
 use lib.Seq.{take-append-le, drop-append-le}
@@ -31,7 +32,9 @@ module _ (k : Kind) where
     joined-length = length-append p b ∙ add-comm (length p) (length b) ∙ ap (λ (n : ℕ). length b + n) whole-length
 
     pub count-joined : countOf k (p ++ b) ≡ countOf k p + countOf k b
-    count-joined = ap (λ (n : ℕ). n / bytesOf k) joined-length ∙ add-mul-div-right (length b) (countOf k p) (bytes-range k .0) ∙ add-comm (countOf k b) (countOf k p)
+    count-joined = ap (λ (n : ℕ). n / bytesOf k) joined-length
+        ∙ add-mul-div-right (length b) (countOf k p) (bytes-range k .0)
+        ∙ add-comm (countOf k b) (countOf k p)
 
     pub left-joined : leftOf k (p ++ b) ≡ leftOf k b
     left-joined = ap (λ (n : ℕ). n % bytesOf k) joined-length ∙ add-mul-mod-self-right (length b) (countOf k p) (bytesOf k)

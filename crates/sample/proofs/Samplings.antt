@@ -25,7 +25,8 @@ sample-inside i n w l h k = subst (λ (m : ℕ). m ≤ l) (suc-mul i w) (le-tran
 pub samples-numbers : (k : Kind) (n : ℕ) (bytes : List ℕ) → samplesIn k n bytes ≡ map (valueOf k) (numbersIn (bytesOf k) n bytes)
 unfolding samplesIn numbersIn
 samples-numbers k zero bytes = refl
-samples-numbers k (suc n) bytes = ap (λ (l : List Value). valueOf k (fromLittleEndian (take (bytesOf k) bytes)) ∷ l) (samples-numbers k n (drop (bytesOf k) bytes))
+samples-numbers k (suc n) bytes =
+    ap (λ (l : List Value). valueOf k (fromLittleEndian (take (bytesOf k) bytes)) ∷ l) (samples-numbers k n (drop (bytesOf k) bytes))
 
 pub length-numbers : (w n : ℕ) (bytes : List ℕ) → length (numbersIn w n bytes) ≡ n
 unfolding numbersIn
@@ -61,13 +62,15 @@ unfolding samplesIn
 length-samples k zero bytes = refl
 length-samples k (suc n) bytes = ap suc (length-samples k n (drop (bytesOf k) bytes))
 
-pub sample-here : (k : Kind) (n : ℕ) (bytes : List ℕ) (i : ℕ) (d : Value) → i < n → getD (samplesIn k n bytes) i d ≡ valueOf k (fromLittleEndian (take (bytesOf k) (drop (i * bytesOf k) bytes)))
+pub sample-here : (k : Kind) (n : ℕ) (bytes : List ℕ) (i : ℕ) (d : Value) → i < n
+    → getD (samplesIn k n bytes) i d ≡ valueOf k (fromLittleEndian (take (bytesOf k) (drop (i * bytesOf k) bytes)))
 unfolding samplesIn
 sample-here k zero bytes i d h = absurd (not-suc-le-zero h)
 sample-here k (suc n) bytes zero d h = rw (zero-mul (bytesOf k)) refl
 sample-here k (suc n) bytes (suc i) d h =
     sample-here k n (drop (bytesOf k) bytes) i d (le-of-suc-le-suc h)
-    ∙ ap (λ (l : List ℕ). valueOf k (fromLittleEndian (take (bytesOf k) l))) (drop-drop (i * bytesOf k) (bytesOf k) bytes ∙ ap (λ (m : ℕ). drop m bytes) (add-comm (bytesOf k) (i * bytesOf k) ∙ sym (suc-mul i (bytesOf k))))
+    ∙ ap (λ (l : List ℕ). valueOf k (fromLittleEndian (take (bytesOf k) l)))
+    (drop-drop (i * bytesOf k) (bytesOf k) bytes ∙ ap (λ (m : ℕ). drop m bytes) (add-comm (bytesOf k) (i * bytesOf k) ∙ sym (suc-mul i (bytesOf k))))
 
 -- ---- the sample at an index
 

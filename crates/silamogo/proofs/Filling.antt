@@ -47,8 +47,10 @@ module _ (ns bs : List ℕ) (even : length ns ≡ length bs) where
   record-start {end} {r} q e = rw e (omega arith, q ∙ ap (λ (n : ℕ). min n 12) (sym (fields-length ns bs even)), refl, refl)
 
   module _ (end : ℕ) (r : Record) (at : ℕ) (filled : RecordFilled ns bs end r at) where
-    pub record-more : at < end → {v : Value} → v ≡ valueFor (sampleFor (getD ns at 0) (getD bs at 0)) → RecordFilled ns bs end (record { fields = set (r .fields) at (fieldFor v); count = r .count }) (at + 1)
-    record-more h q = filled-more (fieldFor (U8 0)) (map fieldIn (samplesOf ns bs)) end at (r .fields) filled h (fieldIn (sampleFor 0 0)) (field-at ns bs even at q)
+    pub record-more : at < end → {v : Value} → v ≡ valueFor (sampleFor (getD ns at 0) (getD bs at 0))
+        → RecordFilled ns bs end (record { fields = set (r .fields) at (fieldFor v); count = r .count }) (at + 1)
+    record-more h q = filled-more (fieldFor (U8 0)) (map fieldIn (samplesOf ns bs)) end at (r .fields) filled h
+        (fieldIn (sampleFor 0 0)) (field-at ns bs even at q)
 
     pub record-end : end ≤ at → _≡_ {A = Record} (record { fields = r .fields; count = length ns }) (recordFor (samplesOf ns bs))
     record-end h = rw (filled-all (fieldFor (U8 0)) (map fieldIn (samplesOf ns bs)) end at (r .fields) filled h, pairs-length ns bs even)
@@ -64,8 +66,10 @@ module _ (ns : List ℕ) where
   shape-start {end} {s} q e = rw e (omega arith, q ∙ ap (λ (n : ℕ). min n 12) (sym (length-map ns placeIn)), refl, refl)
 
   module _ (end : ℕ) (s : Shape) (at : ℕ) (filled : ShapeFilled end s at) where
-    pub shape-more : at < end → {k : Kind} → k ≡ kindFor (getD ns at 0) → ShapeFilled end (record { places = set (s .places) at (placeFor k); count = s .count }) (at + 1)
-    shape-more h q = filled-more (placeFor kind.U8) (map placeIn ns) end at (s .places) filled h (placeIn 0) (ap placeFor q ∙ sym (List·getD-map placeIn ns at 0))
+    pub shape-more : at < end → {k : Kind} → k ≡ kindFor (getD ns at 0)
+        → ShapeFilled end (record { places = set (s .places) at (placeFor k); count = s .count }) (at + 1)
+    shape-more h q = filled-more (placeFor kind.U8) (map placeIn ns) end at (s .places) filled h (placeIn 0)
+        (ap placeFor q ∙ sym (List·getD-map placeIn ns at 0))
 
     pub shape-end : end ≤ at → _≡_ {A = Shape} (record { places = s .places; count = length ns }) (shapeFor ns)
     shape-end h = rw (filled-all (placeFor kind.U8) (map placeIn ns) end at (s .places) filled h)
@@ -81,7 +85,8 @@ module _ (r : Record) where
   Written bits at = (at ≤ r .count) × (length bits ≡ r .count) × (take at bits ≡ map fieldBits (take at (r .fields)))
 
   module _ (bits : List ℕ) (at : ℕ) (written : Written bits at) where
-    pub written-more : at < r .count → r .count ≤ length (r .fields) → {b : ℕ} → b ≡ bitsOf (getD (r .fields) at (fieldFor (U8 0)) .value) → Written (set bits at b) (at + 1)
+    pub written-more : at < r .count → r .count ≤ length (r .fields) → {b : ℕ}
+        → b ≡ bitsOf (getD (r .fields) at (fieldFor (U8 0)) .value) → Written (set bits at b) (at + 1)
     written-more h few {b} q = (
       omega arith,
       length-set bits at b ∙ written .1,
@@ -89,4 +94,5 @@ module _ (r : Record) where
     )
 
     pub written-all : r .count ≤ at → bits ≡ map fieldBits (fieldsOf r)
-    written-all h = let e : at ≡ r .count = omega (arith, written .0) in sym (take-all at bits (omega (arith, written .1))) ∙ written .2 ∙ ap (λ (n : ℕ). map fieldBits (take n (r .fields))) e
+    written-all h = let e : at ≡ r .count = omega (arith, written .0) in
+        sym (take-all at bits (omega (arith, written .1))) ∙ written .2 ∙ ap (λ (n : ℕ). map fieldBits (take n (r .fields))) e

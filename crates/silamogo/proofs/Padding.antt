@@ -34,7 +34,8 @@ module _ {A : Type 0} (none : A) where
     pub one-more : at < length xs → at < n → (d : A) {x : A} → x ≡ getD xs at d → set (padded n none (take at xs)) at x ≡ padded n none (take (at + 1) xs)
     one-more h g d {x} q =
         let l : length (take at xs) ≡ at = length-take-le at xs (omega arith) in
-        let put : set (padded n none (take at xs)) (length (take at xs)) x ≡ padded n none (take at xs ++ (x ∷ [])) = padded-snoc n (take at xs) x (omega arith) in
+        let put : set (padded n none (take at xs)) (length (take at xs)) x ≡ padded n none (take at xs ++ (x ∷ [])) =
+        padded-snoc n (take at xs) x (omega arith) in
         rw (add-one at, take-suc xs at d h, ← q) (rw l at put)
 
     pub all-filled : at ≡ min (length xs) n → padded n none (take at xs) ≡ padded n none xs

@@ -38,10 +38,12 @@ module _ (ns bs : List ℕ) (even : length ns ≡ length bs) {i : ℕ} (i-is : i
   wide-test : ltb (firstWide (samplesOf ns bs)) (length (samplesOf ns bs)) ≡ ltb i (length ns)
   wide-test = rw (pairs-length ns bs even, ← i-is)
 
-  pub wide-stop : {A : Type 0} (next : Outcome A) → i < length ns → refuses 4 i ≡ refuseIf (ltb (firstWide (samplesOf ns bs)) (length (samplesOf ns bs))) 4 (firstWide (samplesOf ns bs)) next
+  pub wide-stop : {A : Type 0} (next : Outcome A) → i < length ns
+      → refuses 4 i ≡ refuseIf (ltb (firstWide (samplesOf ns bs)) (length (samplesOf ns bs))) 4 (firstWide (samplesOf ns bs)) next
   wide-stop next h = rw (wide-test, lt-ltb i (length ns) h, ← i-is)
 
-  pub wide-past : {A : Type 0} (next : Outcome A) → length ns ≤ i → refuseIf (ltb (firstWide (samplesOf ns bs)) (length (samplesOf ns bs))) 4 (firstWide (samplesOf ns bs)) next ≡ next
+  pub wide-past : {A : Type 0} (next : Outcome A) → length ns ≤ i
+      → refuseIf (ltb (firstWide (samplesOf ns bs)) (length (samplesOf ns bs))) 4 (firstWide (samplesOf ns bs)) next ≡ next
   wide-past next h = rw (wide-test, le-ltb i (length ns) h)
 
 -- ---- comparison
@@ -70,9 +72,11 @@ module _ (ns xs ms ys : List ℕ) {s t : Bool} (s-is : s ≡ anyUnnamed ns) (t-i
           unfolding recordsOrder
           order-second-wide h = rw (← s-is, ← t-is, named, even) (wide-stop ms ys (both .1) j-is _ h ∙ sym (wide-past ns xs (both .0) i-is _ first))
 
-          pub order-given : length ms ≤ j → {a b : Record} → a ≡ recordFor (samplesOf ns xs) → b ≡ recordFor (samplesOf ms ys) → compareOf a b ≡ recordsOrder ns xs ms ys
+          pub order-given : length ms ≤ j → {a b : Record} → a ≡ recordFor (samplesOf ns xs) → b ≡ recordFor (samplesOf ms ys)
+              → compareOf a b ≡ recordsOrder ns xs ms ys
           unfolding recordsOrder
-          order-given second p q = rw (p, q, ← s-is, ← t-is, named, even) (sym (wide-past ns xs (both .0) i-is _ first ∙ wide-past ms ys (both .1) j-is _ second))
+          order-given second p q =
+              rw (p, q, ← s-is, ← t-is, named, even) (sym (wide-past ns xs (both .0) i-is _ first ∙ wide-past ms ys (both .1) j-is _ second))
 
 -- ---- writing a key
 
@@ -104,7 +108,8 @@ module _ (ns bs old : List ℕ) where
             → (writtenOutcome w ≡ writeOf r (length old)) × (new ≡ writeExit r old) → {m : Measured} → m ≡ measuredOf (writtenOutcome w) → Left m new
         unfolding keyLength keyExit writeExit
         write-given h q w new e a =
-            let past : writeOf (recordFor (samplesOf ns bs)) (length old) ≡ keyLength ns bs (length old) = rw (← s-is, named, eq-eqb (length ns) (length bs) even) (sym (wide-past ns bs even i-is _ h)) in
+            let past : writeOf (recordFor (samplesOf ns bs)) (length old) ≡ keyLength ns bs (length old) =
+            rw (← s-is, named, eq-eqb (length ns) (length bs) even) (sym (wide-past ns bs even i-is _ h)) in
             (a ∙ ap measuredOf (rw q at (e .0) ∙ past), rw q at (e .1) ∙ rw (← past))
 
 -- ---- reading a key

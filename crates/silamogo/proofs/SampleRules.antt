@@ -84,11 +84,13 @@ module _ (a b : Sample) {r : ℕ} (q : r ≡ ruleFor (anyUnnamed (a .kind ∷ b 
 module _ (v l u : Sample) {r : ℕ} (q : r ≡ ruleFor (anyUnnamed (v .kind ∷ l .kind ∷ u .kind ∷ [])) (anyWide (v ∷ l ∷ u ∷ []))) where
   pub clamp-stop : (r ≡ 0 → ⊥) → refuses r 0 ≡ clampOf v l u
   unfolding clampOf
-  clamp-stop h = rule-stop (choose.clampOf (valueFor v) (valueFor l) (valueFor u)) (anyUnnamed (v .kind ∷ l .kind ∷ u .kind ∷ [])) (anyWide (v ∷ l ∷ u ∷ [])) q h
+  clamp-stop h = rule-stop (choose.clampOf (valueFor v) (valueFor l) (valueFor u)) (anyUnnamed (v .kind ∷ l .kind ∷ u .kind ∷ []))
+      (anyWide (v ∷ l ∷ u ∷ [])) q h
 
   pub clamp-past : r ≡ 0 → {x y z : Value} → x ≡ valueFor v → y ≡ valueFor l → z ≡ valueFor u → choose.clampOf x y z ≡ clampOf v l u
   unfolding clampOf
-  clamp-past h d e f = rw (d, e, f) (rule-past (choose.clampOf (valueFor v) (valueFor l) (valueFor u)) (anyUnnamed (v .kind ∷ l .kind ∷ u .kind ∷ [])) (anyWide (v ∷ l ∷ u ∷ [])) q h)
+  clamp-past h d e f = rw (d, e, f)
+      (rule-past (choose.clampOf (valueFor v) (valueFor l) (valueFor u)) (anyUnnamed (v .kind ∷ l .kind ∷ u .kind ∷ [])) (anyWide (v ∷ l ∷ u ∷ [])) q h)
 
 module _ (v : Sample) (to : ℕ) {r : ℕ} (q : r ≡ ruleFor (anyUnnamed (v .kind ∷ to ∷ [])) (anyWide (v ∷ []))) where
   pub convert-stop : (r ≡ 0 → ⊥) → refuses r 0 ≡ convertOf v to

@@ -53,7 +53,8 @@ unfolding numberAmong
 among-none s = refl
 
 -- n words of a list are passed, and the next has p bytes
-module _ (s words rest : List ℕ) (n p : ℕ) (passed : numberAmong s (wordsOf words) ≡ n + numberAmong s (wordsOf rest)) (q : p ≡ placeOf 32 rest) {r : Bool} (t : r ≡ sameBytes s (take p rest)) where
+module _ (s words rest : List ℕ) (n p : ℕ) (passed : numberAmong s (wordsOf words) ≡ n + numberAmong s (wordsOf rest))
+    (q : p ≡ placeOf 32 rest) {r : Bool} (t : r ≡ sameBytes s (take p rest)) where
   pub among-found : r ≡ true → n ≡ numberAmong s (wordsOf words)
   among-found h =
       let z = ap (numberAmong s) (first-word rest p q) ∙ among-here s (take p rest) (after p rest) (sym t ∙ h) in
@@ -65,7 +66,8 @@ module _ (s words rest : List ℕ) (n p : ℕ) (passed : numberAmong s (wordsOf 
       let y = ap (numberAmong s) (first-alone rest p e) ∙ among-none s in
       omega arith
 
-  pub among-next : p ≤ length rest → (p ≡ length rest → ⊥) → r ≡ false → numberAmong s (wordsOf words) ≡ (n + 1) + numberAmong s (wordsOf (take (length rest - (p + 1)) (drop (p + 1) rest)))
+  pub among-next : p ≤ length rest → (p ≡ length rest → ⊥) → r ≡ false
+      → numberAmong s (wordsOf words) ≡ (n + 1) + numberAmong s (wordsOf (take (length rest - (p + 1)) (drop (p + 1) rest)))
   among-next l d h =
       let z = ap (numberAmong s) (first-word rest p q) ∙ among-later s (take p rest) (after p rest) (sym t ∙ h) in
       let y = ap (numberAmong s) (first-parted rest p l d) in
@@ -102,5 +104,6 @@ module _ (rest : List ℕ) (p : ℕ) (q : p ≡ placeOf 32 rest) (left : ℕ) wh
       part-is rest p ∙ drop-of-length-le rest {i = p} (omega arith)
       ∙ sym (ap (nthOf left) (first-word rest p q) ∙ nth-past left (take p rest) (after p rest) h ∙ ap (nthOf (left - 1)) (first-alone rest p e))
 
-  pub nth-next : 0 < left → p ≤ length rest → (p ≡ length rest → ⊥) → nthOf left (wordsOf rest) ≡ nthOf (left - 1) (wordsOf (take (length rest - (p + 1)) (drop (p + 1) rest)))
+  pub nth-next : 0 < left → p ≤ length rest → (p ≡ length rest → ⊥)
+      → nthOf left (wordsOf rest) ≡ nthOf (left - 1) (wordsOf (take (length rest - (p + 1)) (drop (p + 1) rest)))
   nth-next h l d = ap (nthOf left) (first-word rest p q) ∙ nth-past left (take p rest) (after p rest) h ∙ ap (nthOf (left - 1)) (first-parted rest p l d)

@@ -93,7 +93,8 @@ module _ (base : ℕ) (s : List ℕ) (i n : ℕ) where
   unfolding numberFrom
   number-ends h = rw (drop-of-length-le s h)
 
-  number-next : i < length s → numberFrom base (drop i s) n ≡ withDigit (digitIn base (getD s i 0)) (λ d. withWord (n * base + d) (λ m. numberFrom base (drop (i + 1) s) m))
+  number-next : i < length s
+      → numberFrom base (drop i s) n ≡ withDigit (digitIn base (getD s i 0)) (λ d. withWord (n * base + d) (λ m. numberFrom base (drop (i + 1) s) m))
   unfolding numberFrom
   number-next h = rw (drop-cons s i 0 h, add-one)
 

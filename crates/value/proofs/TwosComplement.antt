@@ -67,7 +67,8 @@ module _ (z : ℤ) (f : SFits w64 z) where
     pub twice : toZ w64 (ofZ w64 (negsuc 0 -ℤ toZ w64 (ofZ w64 z))) ≡ pos (mag z)
     twice = toZ-ofZ w64 _ negative-fits ∙ turned
 
-    pub negative-cast : T (nonNeg (toZ w64 (ofZ w64 (negsuc 0 -ℤ toZ w64 (ofZ w64 z))))) × Fits w64 (natAbs (toZ w64 (ofZ w64 (negsuc 0 -ℤ toZ w64 (ofZ w64 z)))))
+    pub negative-cast : T (nonNeg (toZ w64 (ofZ w64 (negsuc 0 -ℤ toZ w64 (ofZ w64 z)))))
+        × Fits w64 (natAbs (toZ w64 (ofZ w64 (negsuc 0 -ℤ toZ w64 (ofZ w64 z)))))
     negative-cast = rw twice (tt, record { fits = half-full w64 (f .sfits) })
 
     pub negative-below : (ones : ℕ) → mag z ≤ ones → natAbs (toZ w64 (ofZ w64 (negsuc 0 -ℤ toZ w64 (ofZ w64 z)))) ≤ ones

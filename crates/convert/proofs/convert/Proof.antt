@@ -20,7 +20,9 @@ returns-2 : tie.Need-returns-2
 returns-2 c =
     let asked = c .before .before .before in
     let a = asked .before .before .before .args in
-    c .put .ensures ∙ ap (intoOf (a .to)) (c .before .parts-of .ensures) ∙ sym (other-kind (a .v) (a .to) (λ q. c .before .before .if1 .left (source-is asked ∙ q ∙ sym (asked .kind-number2 .ensures))))
+    c .put .ensures
+    ∙ ap (intoOf (a .to)) (c .before .parts-of .ensures)
+    ∙ sym (other-kind (a .v) (a .to) (λ q. c .before .before .if1 .left (source-is asked ∙ q ∙ sym (asked .kind-number2 .ensures))))
 
 pub convert-spec : {M : Type 1} → statement M
 convert-spec =

@@ -26,15 +26,20 @@ loop-again c =
     let a = s .args in
     let n = length-numbers 4 (length (a .row .now)) (a .src .now) in
     let here : b .loop .i < length (a .row .now) = omega (arith, turn .loop-test .taken, b .loop .inv .2) in
-    write-step (ofBits binary32) (numbersIn 4 (length (a .row .now)) (a .src .now)) (a .row .now) (b .loop .row) (b .loop .i) 0 _ (omega (arith, n, here)) n (b .loop .inv)
-    (c .float-of .ensures ∙ ap (ofBits binary32) (c .before .quad .ensures ∙ sym (number-here 4 (length (a .row .now)) (a .src .now) (b .loop .i) 0 here ∙ four-here (a .src .now) (b .loop .i) (omega (arith, here, s .pre)))))
+    write-step (ofBits binary32) (numbersIn 4 (length (a .row .now)) (a .src .now)) (a .row .now) (b .loop .row) (b .loop .i) 0 _
+    (omega (arith, n, here)) n (b .loop .inv)
+    (c .float-of .ensures
+    ∙ ap (ofBits binary32)
+    (c .before .quad .ensures
+    ∙ sym (number-here 4 (length (a .row .now)) (a .src .now) (b .loop .i) 0 here ∙ four-here (a .src .now) (b .loop .i) (omega (arith, here, s .pre)))))
 
 returns : tie.Need-returns Inv-loop μ-loop
 returns c =
     let b = c .before in
     let a = b .before .before .before .args in
     let n = length-numbers 4 (length (a .row .now)) (a .src .now) in
-    write-end (ofBits binary32) (numbersIn 4 (length (a .row .now)) (a .src .now)) (a .row .now) (b .loop .row) (b .loop .i) (omega (arith, n, c .loop-test .left, b .loop .inv .2)) n (b .loop .inv)
+    write-end (ofBits binary32) (numbersIn 4 (length (a .row .now)) (a .src .now)) (a .row .now) (b .loop .row) (b .loop .i)
+    (omega (arith, n, c .loop-test .left, b .loop .inv .2)) n (b .loop .inv)
 
 pub load-f32s-spec : {M : Type 1} → statement M
 load-f32s-spec =

@@ -25,15 +25,18 @@ loop-again c =
     let a = s .args in
     let n = length-numbers 2 (length (a .row .now)) (a .src .now) in
     let here : b .loop .i < length (a .row .now) = omega (arith, turn .loop-test .taken, b .loop .inv .2) in
-    write-step (λ (n : ℕ). n) (numbersIn 2 (length (a .row .now)) (a .src .now)) (a .row .now) (b .loop .row) (b .loop .i) 0 _ (omega (arith, n, here)) n (b .loop .inv)
-    (c .pair .ensures ∙ sym (number-here 2 (length (a .row .now)) (a .src .now) (b .loop .i) 0 here ∙ two-here (a .src .now) (b .loop .i) (omega (arith, here, s .pre))))
+    write-step (λ (n : ℕ). n) (numbersIn 2 (length (a .row .now)) (a .src .now)) (a .row .now) (b .loop .row) (b .loop .i) 0 _
+    (omega (arith, n, here)) n (b .loop .inv)
+    (c .pair .ensures ∙ sym
+    (number-here 2 (length (a .row .now)) (a .src .now) (b .loop .i) 0 here ∙ two-here (a .src .now) (b .loop .i) (omega (arith, here, s .pre))))
 
 returns : tie.Need-returns Inv-loop μ-loop
 returns c =
     let b = c .before in
     let a = b .before .before .before .args in
     let n = length-numbers 2 (length (a .row .now)) (a .src .now) in
-    write-end (λ (n : ℕ). n) (numbersIn 2 (length (a .row .now)) (a .src .now)) (a .row .now) (b .loop .row) (b .loop .i) (omega (arith, n, c .loop-test .left, b .loop .inv .2)) n (b .loop .inv)
+    write-end (λ (n : ℕ). n) (numbersIn 2 (length (a .row .now)) (a .src .now)) (a .row .now) (b .loop .row) (b .loop .i)
+    (omega (arith, n, c .loop-test .left, b .loop .inv .2)) n (b .loop .inv)
 
 pub load-u16s-spec : {M : Type 1} → statement M
 load-u16s-spec =

@@ -64,7 +64,8 @@ loop-again c =
     let a = b .before .args in
     let x = getD (a .row .now) (b .loop .i) nan in (
       omega (arith, turn .loop-test .taken),
-      fill-step kind.F32 plainBits (a .row .now) (a .dst .now) (a .at) (b .loop .i) nan (turn .loop-test .taken) refl (sym (bits-are x)) (b .loop .dst) (a .at + 4 * b .loop .i) 4 (ap (λ (m : ℕ). a .at + m) (mul-comm 4 (b .loop .i))) refl (b .loop .inv .1)
+      fill-step kind.F32 plainBits (a .row .now) (a .dst .now) (a .at) (b .loop .i) nan (turn .loop-test .taken) refl
+          (sym (bits-are x)) (b .loop .dst) (a .at + 4 * b .loop .i) 4 (ap (λ (m : ℕ). a .at + m) (mul-comm 4 (b .loop .i))) refl (b .loop .inv .1)
           (lay-four (b .loop .dst) (a .at + 4 * b .loop .i) (toBits binary32 x)),
     )
 

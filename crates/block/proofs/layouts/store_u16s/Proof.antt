@@ -26,7 +26,8 @@ slice-write-dst-2 c =
     let turn = c .before in
     let b = turn .before in
     let a = b .before .args in
-    past-one (b .loop .dst) (b .before .args .at + 2 * b .loop .i) (getD (a .row .now) (b .loop .i) 0) (omega (arith, turn .loop-test .taken, b .loop .inv .1 .0, b .before .pre))
+    past-one (b .loop .dst) (b .before .args .at + 2 * b .loop .i) (getD (a .row .now) (b .loop .i) 0)
+    (omega (arith, turn .loop-test .taken, b .loop .inv .1 .0, b .before .pre))
 
 loop-again : tie.Need-loop-again Inv-loop μ-loop
 loop-again c =
@@ -34,7 +35,8 @@ loop-again c =
     let b = turn .before in
     let a = b .before .args in (
       omega (arith, turn .loop-test .taken),
-      fill-step kind.U16 (λ (n : ℕ). n) (a .row .now) (a .dst .now) (a .at) (b .loop .i) 0 (turn .loop-test .taken) refl refl (b .loop .dst) (b .before .args .at + 2 * b .loop .i) 2 (ap (λ (m : ℕ). a .at + m) (mul-comm 2 (b .loop .i))) refl (b .loop .inv .1)
+      fill-step kind.U16 (λ (n : ℕ). n) (a .row .now) (a .dst .now) (a .at) (b .loop .i) 0 (turn .loop-test .taken) refl refl
+          (b .loop .dst) (b .before .args .at + 2 * b .loop .i) 2 (ap (λ (m : ℕ). a .at + m) (mul-comm 2 (b .loop .i))) refl (b .loop .inv .1)
           (lay-two (b .loop .dst) (b .before .args .at + 2 * b .loop .i) (getD (a .row .now) (b .loop .i) 0)),
     )
 

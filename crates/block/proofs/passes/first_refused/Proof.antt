@@ -43,14 +43,16 @@ returns c =
     let b = turn .before in
     let a = b .before .before .args in
     let s = samplesOf (a .from) (a .src .now) in
-    reach-stop (refusedTo (a .to)) 0 s (b .loop .i) (valueOf (a .from) 0) (below turn) (b .loop .inv) (tested (c .before) ∙ c .if1 .taken) ∙ reach-start (refusedTo (a .to)) s
+    reach-stop (refusedTo (a .to)) 0 s (b .loop .i) (valueOf (a .from) 0) (below turn) (b .loop .inv)
+    (tested (c .before) ∙ c .if1 .taken) ∙ reach-start (refusedTo (a .to)) s
 
 loop-again : tie.Need-loop-again Inv-loop μ-loop
 loop-again c =
     let turn = c .before .before .before in
     let b = turn .before in
     let a = b .before .before .args in
-    reach-step (refusedTo (a .to)) 0 (samplesOf (a .from) (a .src .now)) (b .loop .i) (valueOf (a .from) 0) (below turn) (b .loop .inv) (tested (c .before) ∙ c .if1 .left)
+    reach-step (refusedTo (a .to)) 0 (samplesOf (a .from) (a .src .now)) (b .loop .i) (valueOf (a .from) 0) (below turn)
+    (b .loop .inv) (tested (c .before) ∙ c .if1 .left)
 
 returns-2 : tie.Need-returns-2 Inv-loop μ-loop
 returns-2 c =
@@ -58,7 +60,9 @@ returns-2 c =
     let s = b .before .before in
     let a = s .args in
     let l = samplesOf (a .from) (a .src .now) in
-    reach-end (refusedTo (a .to)) 0 l (b .loop .i) (omega (arith, length-samples (a .from) (countOf (a .from) (a .src .now)) (a .src .now), s .pre, c .loop-test .left)) (b .loop .inv) ∙ reach-start (refusedTo (a .to)) l
+    reach-end (refusedTo (a .to)) 0 l (b .loop .i)
+    (omega (arith, length-samples (a .from) (countOf (a .from) (a .src .now)) (a .src .now), s .pre, c .loop-test .left))
+    (b .loop .inv) ∙ reach-start (refusedTo (a .to)) l
 
 pub first-refused-spec : {M : Type 1} → statement M
 first-refused-spec =

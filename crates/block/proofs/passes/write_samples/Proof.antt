@@ -32,7 +32,8 @@ write-inside c =
     let b = c .before in
     let s = b .before .before .before .before in
     let a = s .args in
-    place-inside (b .loop .i) (a .n) (bytesOf (a .to)) (length (a .dst .now)) (c .loop-test .taken) (s .pre .1) (b .loop .inv .1) (b .before .bytes-of .ensures .0) (b .loop .inv .2 .0)
+    place-inside (b .loop .i) (a .n) (bytesOf (a .to)) (length (a .dst .now)) (c .loop-test .taken) (s .pre .1) (b .loop .inv .1)
+    (b .before .bytes-of .ensures .0) (b .loop .inv .2 .0)
 
 store-requires : tie.Need-store-requires Inv-loop μ-loop
 store-requires c κs = write-inside (c .before .before .before)
@@ -52,10 +53,14 @@ loop-again c =
     let start = b .before .before .before .before in
     let a = start .args in
     let s = samplesOf (a .from) (a .src .now) in
-    let below : b .loop .i < length s = omega (arith, length-samples (a .from) (countOf (a .from) (a .src .now)) (a .src .now), start .pre .0, turn .loop-test .taken) in (
+    let below : b .loop .i < length s =
+    omega (arith, length-samples (a .from) (countOf (a .from) (a .src .now)) (a .src .now), start .pre .0, turn .loop-test .taken) in (
       omega (arith, turn .loop-test .taken),
       next-place (b .loop .i) (bytesOf (a .to)) (b .loop .inv .1) (b .before .bytes-of .ensures .0),
-      fill-step (a .to) (movedBits (a .to)) s (a .dst .now) 0 (b .loop .i) (valueOf (a .from) 0) below (sym (made .before .sample-at .ensures)) (made .bits-to .ensures) (b .loop .dst) (b .loop .place) (b .before .bytes-of .result) (b .loop .inv .1 ∙ sym (zero-add (b .loop .i * bytesOf (a .to)))) (b .before .bytes-of .ensures .0) (b .loop .inv .2) (stored .store .ensures),
+      fill-step (a .to) (movedBits (a .to)) s (a .dst .now) 0 (b .loop .i) (valueOf (a .from) 0) below
+          (sym (made .before .sample-at .ensures)) (made .bits-to .ensures) (b .loop .dst) (b .loop .place)
+          (b .before .bytes-of .result) (b .loop .inv .1 ∙ sym (zero-add (b .loop .i * bytesOf (a .to))))
+          (b .before .bytes-of .ensures .0) (b .loop .inv .2) (stored .store .ensures),
     )
 
 returns : tie.Need-returns Inv-loop μ-loop
@@ -64,7 +69,8 @@ returns c =
     let start = b .before .before .before .before in
     let a = start .args in
     let s = samplesOf (a .from) (a .src .now) in
-    fill-end (a .to) (movedBits (a .to)) s (a .dst .now) 0 (b .loop .dst) (b .loop .i) (omega (arith, length-samples (a .from) (countOf (a .from) (a .src .now)) (a .src .now), start .pre .0, c .loop-test .left)) (b .loop .inv .2)
+    fill-end (a .to) (movedBits (a .to)) s (a .dst .now) 0 (b .loop .dst) (b .loop .i)
+    (omega (arith, length-samples (a .from) (countOf (a .from) (a .src .now)) (a .src .now), start .pre .0, c .loop-test .left)) (b .loop .inv .2)
 
 pub write-samples-spec : {M : Type 1} → statement M
 write-samples-spec =

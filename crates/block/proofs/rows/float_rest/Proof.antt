@@ -27,7 +27,8 @@ returns c =
     let s = called .before .before .before .before .before .before in
     let a = s .args in
     called .float-row .ensures
-    ∙ ap (λ (n : ℕ). sets (a .dst .now) (a .at) (bytesFor kind.F32 (map floatedBits (numbersIn 2 n (a .src .now))))) (places {A = ℕ} (a .samples) 16 0 (le-of-lt (s .pre .0)))
+    ∙ ap (λ (n : ℕ). sets (a .dst .now) (a .at) (bytesFor kind.F32 (map floatedBits (numbersIn 2 n (a .src .now)))))
+    (places {A = ℕ} (a .samples) 16 0 (le-of-lt (s .pre .0)))
 
 pub float-rest-spec : {M : Type 1} → statement M
 float-rest-spec =

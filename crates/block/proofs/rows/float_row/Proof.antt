@@ -19,19 +19,25 @@ use Rattle.block.proofs.rows.float_row.Statement.{statement}
 use Rattle.block.proofs.rows.float_row.Tie as tie
 
 -- the first row holds the samples' numbers
-numbers : (c : tie.After-load-u16s) → (let a = c .before .before .before .before .before .before .args in c .load-u16s .last .1 .0 ≡ numbersIn 2 (length (a .wide .now)) (a .src .now))
-numbers c = let a = c .before .before .before .before .before .before .args in c .load-u16s .ensures ∙ map-same (numbersIn 2 (length (a .wide .now)) (a .src .now))
+numbers : (c : tie.After-load-u16s)
+    → (let a = c .before .before .before .before .before .before .args in c .load-u16s .last .1 .0 ≡ numbersIn 2 (length (a .wide .now)) (a .src .now))
+numbers c = let a = c .before .before .before .before .before .before .args in
+    c .load-u16s .ensures ∙ map-same (numbersIn 2 (length (a .wide .now)) (a .src .now))
 
 -- as many as it has places
-many : (c : tie.After-load-u16s) → (let a = c .before .before .before .before .before .before .args in length (c .load-u16s .last .1 .0) ≡ length (a .wide .now))
+many : (c : tie.After-load-u16s)
+    → (let a = c .before .before .before .before .before .before .args in length (c .load-u16s .last .1 .0) ≡ length (a .wide .now))
 many c = let a = c .before .before .before .before .before .before .args in ap length (numbers c) ∙ length-numbers 2 (length (a .wide .now)) (a .src .now)
 
 -- and the second row their casts
-casts : (c : tie.After-u16-to-f32) → (let loaded = c .before .before .before .before .before in c .u16-to-f32 .last .1 .0 ≡ map asF32 (loaded .load-u16s .last .1 .0))
+casts : (c : tie.After-u16-to-f32)
+    → (let loaded = c .before .before .before .before .before in c .u16-to-f32 .last .1 .0 ≡ map asF32 (loaded .load-u16s .last .1 .0))
 casts c =
     let loaded = c .before .before .before .before .before in
     let s = loaded .before .before .before .before .before .before in
-    c .u16-to-f32 .ensures .1 ∙ floated-row (loaded .load-u16s .last .1 .0) (s .args .reals .now) (many loaded ∙ s .pre .1) (λ i h. c .before .before .before .slice-known4 .given i .fits)
+    c .u16-to-f32 .ensures .1
+    ∙ floated-row (loaded .load-u16s .last .1 .0) (s .args .reals .now) (many loaded ∙ s .pre .1)
+    (λ i h. c .before .before .before .slice-known4 .given i .fits)
 
 store-f32s-requires : tie.Need-store-f32s-requires
 store-f32s-requires c κs =
@@ -51,7 +57,8 @@ returns c =
     let a = loaded .before .before .before .before .before .before .args in
     let w = loaded .load-u16s .last .1 .0 in
     stored .store-f32s .ensures
-    ∙ ap (λ (l : List ℕ). sets (a .dst .now) (a .at) (bytesFor kind.F32 l)) (ap (map plainBits) (casts rowed) ∙ map-both plainBits asF32 w ∙ ap (map floatedBits) (numbers loaded))
+    ∙ ap (λ (l : List ℕ). sets (a .dst .now) (a .at) (bytesFor kind.F32 l))
+    (ap (map plainBits) (casts rowed) ∙ map-both plainBits asF32 w ∙ ap (map floatedBits) (numbers loaded))
 
 pub float-row-spec : {M : Type 1} → statement M
 float-row-spec =

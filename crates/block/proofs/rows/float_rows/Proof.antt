@@ -23,8 +23,10 @@ returns c =
     let src = a .src .now in
     let all = numbersIn 2 n src in
     let own : numbersIn 2 end src ≡ take end all = sym (numbers-take 2 n end src (omega arith)) in
-    let other : numbersIn 2 (n - end) (take (length src - 2 * end) (drop (2 * end) src)) ≡ take (n - end) (drop end all) = ap (numbersIn 2 (n - end)) (rest-is (2 * end) src) ∙ numbers-piece 2 n end (n - end) src (omega arith) in
-    fill-two kind.F32 floatedBits all (a .dst .now) 0 end (n - end) (rw (length-numbers 2 n src) (omega arith)) own other (4 * end) (place-of end 4) (full .float-full .ensures) (rest .float-rest .ensures)
+    let other : numbersIn 2 (n - end) (take (length src - 2 * end) (drop (2 * end) src)) ≡ take (n - end) (drop end all) =
+    ap (numbersIn 2 (n - end)) (rest-is (2 * end) src) ∙ numbers-piece 2 n end (n - end) src (omega arith) in
+    fill-two kind.F32 floatedBits all (a .dst .now) 0 end (n - end) (rw (length-numbers 2 n src) (omega arith)) own other
+    (4 * end) (place-of end 4) (full .float-full .ensures) (rest .float-rest .ensures)
 
 pub float-rows-spec : {M : Type 1} → statement M
 float-rows-spec =

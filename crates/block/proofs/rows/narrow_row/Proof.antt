@@ -23,7 +23,8 @@ returns c =
     let n = length (a .wide .now) in
     let own : w ≡ numbersIn 2 n (a .src .now) = loaded .load-u16s .ensures ∙ map-same (numbersIn 2 n (a .src .now)) in
     let many : length w ≡ n = ap length own ∙ length-numbers 2 n (a .src .now) in
-    narrowed-block (a .src .now) (a .dst .now) w (own ∙ ap (λ (m : ℕ). numbersIn 2 m (a .src .now)) (s .pre .0)) (rw many (s .pre .1)) (λ i. known .shared-slice-known .given i .fits)
+    narrowed-block (a .src .now) (a .dst .now) w (own ∙ ap (λ (m : ℕ). numbersIn 2 m (a .src .now)) (s .pre .0))
+    (rw many (s .pre .1)) (λ i. known .shared-slice-known .given i .fits)
     (rowedOutcome (rowed .u16-to-u8 .result)) (rowed .u16-to-u8 .ensures .0) (rowed .u16-to-u8 .ensures .1)
 
 pub narrow-row-spec : {M : Type 1} → statement M

@@ -20,7 +20,8 @@ abbrev μ-loop : tie.MeasureT-loop
 μ-loop src wide₀ dst₀ i₀ wide dst i = length src - i
 
 loop-holds : tie.Need-loop-holds Inv-loop μ-loop
-loop-holds c = let s = c .before .before .before in (omega arith, omega (arith, s .pre .0), s .pre .1, fill-none kind.U16 (λ (n : ℕ). n) (s .args .src .now) (s .args .dst .now) 0)
+loop-holds c = let s = c .before .before .before in
+    (omega arith, omega (arith, s .pre .0), s .pre .1, fill-none kind.U16 (λ (n : ℕ). n) (s .args .src .now) (s .args .dst .now) 0)
 
 -- a row is left
 more : (c : tie.In-loop Inv-loop μ-loop) → c .before .loop .i + 16 ≤ length (c .before .before .before .before .before .args .src .now)
@@ -48,7 +49,8 @@ loop-again c =
       left .1,
       search needs,
       fill-piece kind.U16 (λ (n : ℕ). n) (a .src .now) (a .dst .now) 0 i 16 (b .loop .inv .0) (b .loop .dst) (2 * i) (place-of i 2) (b .loop .inv .3)
-          (called .widen-row .ensures ∙ ap (λ (l : List ℕ). sets (b .loop .dst) (2 * i) (bytesFor kind.U16 (map (λ (n : ℕ). n) l))) (piece-is i 16 (a .src .now))),
+          (called .widen-row .ensures
+          ∙ ap (λ (l : List ℕ). sets (b .loop .dst) (2 * i) (bytesFor kind.U16 (map (λ (n : ℕ). n) l))) (piece-is i 16 (a .src .now))),
     )
 
 returns : tie.Need-returns Inv-loop μ-loop

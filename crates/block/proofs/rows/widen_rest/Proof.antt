@@ -15,4 +15,5 @@ widen-row-requires c κs =
     (sym (places {A = ℕ} (length (s .args .src .now)) 16 0 (le-of-lt (s .pre .0))), s .pre .1)
 
 pub widen-rest-spec : {M : Type 1} → statement M
-widen-rest-spec = tie.close (tie.spec (λ c. search needs) (λ c. sym (length-take-le _ _ (search needs))) widen-row-requires (λ c. search needs) (λ c. search needs))
+widen-rest-spec = tie.close
+    (tie.spec (λ c. search needs) (λ c. sym (length-take-le _ _ (search needs))) widen-row-requires (λ c. search needs) (λ c. search needs))

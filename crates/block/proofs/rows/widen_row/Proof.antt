@@ -19,7 +19,8 @@ returns c =
     let s = known .before in
     let a = s .args in
     stored .store-u16s .ensures
-    ∙ ap (λ (l : List ℕ). sets (a .dst .now) (a .at) (bytesFor kind.U16 l)) (map-same _ ∙ rowed .u8-to-u16 .ensures .1 ∙ widened-row (a .src .now) (a .wide .now) (s .pre .0) (λ i h. known .shared-slice-known .given i .fits))
+    ∙ ap (λ (l : List ℕ). sets (a .dst .now) (a .at) (bytesFor kind.U16 l))
+    (map-same _ ∙ rowed .u8-to-u16 .ensures .1 ∙ widened-row (a .src .now) (a .wide .now) (s .pre .0) (λ i h. known .shared-slice-known .given i .fits))
 
 pub widen-row-spec : {M : Type 1} → statement M
 widen-row-spec = tie.close (tie.spec (λ c κs. search needs) (λ c κs. search needs) (λ c. search needs) (λ c. search needs) returns)

@@ -24,7 +24,8 @@ returns c =
     let full = rest .before .before .before .before .before .before .before in
     let a = full .before .before .before .before .before .before .before .args in
     let n = length (a .src .now) in
-    fill-two kind.U16 (λ (n : ℕ). n) (a .src .now) (a .dst .now) 0 (n - n % 16) (n - (n - n % 16)) (omega arith) refl refl (2 * (n - n % 16)) (place-of (n - n % 16) 2) (full .widen-full .ensures) (rest .widen-rest .ensures)
+    fill-two kind.U16 (λ (n : ℕ). n) (a .src .now) (a .dst .now) 0 (n - n % 16) (n - (n - n % 16)) (omega arith) refl refl
+    (2 * (n - n % 16)) (place-of (n - n % 16) 2) (full .widen-full .ensures) (rest .widen-rest .ensures)
 
 pub widen-rows-spec : {M : Type 1} → statement M
 widen-rows-spec =

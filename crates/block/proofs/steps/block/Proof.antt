@@ -13,7 +13,8 @@ returns c =
     let second = then .before in
     let first = second .before in
     let a = first .before .before .before .args in
-    let r = block-short (a .from) (a .to) (a .src .now) (a .dst .now) (shorter (length (a .dst .now)) (first .count .ensures) (second .bytes-of .ensures .0) (then .if1 .taken)) in
+    let r = block-short (a .from) (a .to) (a .src .now) (a .dst .now)
+    (shorter (length (a .dst .now)) (first .count .ensures) (second .bytes-of .ensures .0) (then .if1 .taken)) in
     (ap rowedOutcome (c .refused .ensures) ∙ r .0, r .1)
 
 -- what the samples ask for: their number, and room for them

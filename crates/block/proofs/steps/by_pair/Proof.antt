@@ -11,7 +11,8 @@ widened-requires c κs =
     let first = second .before .before in
     let s = first .before .before .before .before in
     let a = s .args in
-    let r = count-by-kinds (a .from) (a .to) (a .src .now) (a .n) (length (a .dst .now)) (first .enum-told .given .1) (second .enum-told2 .given .1) (s .pre .0) (s .pre .1) in
+    let r = count-by-kinds (a .from) (a .to) (a .src .now) (a .n) (length (a .dst .now)) (first .enum-told .given .1)
+    (second .enum-told2 .given .1) (s .pre .0) (s .pre .1) in
     rw (← r .0) (r .1)
 
 narrowed-requires : tie.Need-narrowed-requires
@@ -21,7 +22,8 @@ narrowed-requires c κs =
     let first = second .before .before in
     let s = first .before .before .before .before in
     let a = s .args in
-    let r = count-by-kinds (a .from) (a .to) (a .src .now) (a .n) (length (a .dst .now)) (first .enum-told3 .given .1) (second .enum-told4 .given .1) (s .pre .0) (s .pre .1) in
+    let r = count-by-kinds (a .from) (a .to) (a .src .now) (a .n) (length (a .dst .now)) (first .enum-told3 .given .1)
+    (second .enum-told4 .given .1) (s .pre .0) (s .pre .1) in
     (r .0, r .1, few .if1 .left)
 
 floated-requires : tie.Need-floated-requires
@@ -30,7 +32,8 @@ floated-requires c κs =
     let first = second .before .before in
     let s = first .before .before .before .before in
     let a = s .args in
-    let r = count-by-kinds (a .from) (a .to) (a .src .now) (a .n) (length (a .dst .now)) (first .enum-told3 .given .1) (second .enum-told5 .given .1) (s .pre .0) (s .pre .1) in
+    let r = count-by-kinds (a .from) (a .to) (a .src .now) (a .n) (length (a .dst .now)) (first .enum-told3 .given .1)
+    (second .enum-told5 .given .1) (s .pre .0) (s .pre .1) in
     r
 
 made-whole-requires : tie.Need-made-whole-requires
@@ -40,7 +43,8 @@ made-whole-requires c κs =
     let first = second .before .before in
     let s = first .before .before .before .before in
     let a = s .args in
-    let r = count-by-kinds (a .from) (a .to) (a .src .now) (a .n) (length (a .dst .now)) (first .enum-told6 .given .1) (second .enum-told7 .given .1) (s .pre .0) (s .pre .1) in
+    let r = count-by-kinds (a .from) (a .to) (a .src .now) (a .n) (length (a .dst .now)) (first .enum-told6 .given .1)
+    (second .enum-told7 .given .1) (s .pre .0) (s .pre .1) in
     (r .0, r .1, few .if2 .left)
 
 returns : tie.Need-returns

@@ -17,7 +17,8 @@ returns c =
     let a = asked .before .before .before .args in
     let n = step-count (a .from) (a .to) (a .s .samples) (rowedOutcome (a .s .answer)) (a .src .now) (a .dst .now)
     (asked .bytes-of .ensures .0) (counted .wrapping-add-usize .ensures) in
-    let r = step-left (a .from) (a .to) (a .s .samples) (rowedOutcome (a .s .answer)) (a .src .now) (a .dst .now) (λ q. then .if1 .taken (ap (λ (w : ℕ). length (a .src .now) % w) (asked .bytes-of .ensures .0) ∙ q)) in
+    let r = step-left (a .from) (a .to) (a .s .samples) (rowedOutcome (a .s .answer)) (a .src .now) (a .dst .now)
+    (λ q. then .if1 .taken (ap (λ (w : ℕ). length (a .src .now) % w) (asked .bytes-of .ensures .0) ∙ q)) in
     (n, ap rowedOutcome (c .refused .ensures) ∙ ap (λ (p : ℕ). refuses 9 p) n ∙ r .0, r .1)
 
 returns-2 : tie.Need-returns-2

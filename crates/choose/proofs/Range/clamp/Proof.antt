@@ -12,11 +12,13 @@ returns-2 c = sample-lower _ _ (search needs) (search needs) (search needs) (c .
 
 returns-3 : tie.Need-returns-3
 returns-3 c =
-    sample-upper _ _ (search needs) (search needs) (search needs) (c .before .before .before .if1 .taken) (c .before .before .if2 .left) (c .before .if3 .left) (c .if4 .taken)
+    sample-upper _ _ (search needs) (search needs) (search needs) (c .before .before .before .if1 .taken)
+    (c .before .before .if2 .left) (c .before .if3 .left) (c .if4 .taken)
 
 returns-4 : tie.Need-returns-4
 returns-4 c =
-    sample-self _ _ (search needs) (search needs) (search needs) (c .before .before .before .if1 .taken) (c .before .before .if2 .left) (c .before .if3 .left) (c .if4 .left)
+    sample-self _ _ (search needs) (search needs) (search needs) (c .before .before .before .if1 .taken)
+    (c .before .before .if2 .left) (c .before .if3 .left) (c .if4 .left)
 
 returns-5 : tie.Need-returns-5
 returns-5 c = sample-bounds _ _ (search needs) (search needs) (search needs) (c .if1 .left)

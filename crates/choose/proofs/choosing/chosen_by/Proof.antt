@@ -17,7 +17,8 @@ returns-2 : tie.Need-returns-2
 returns-2 c = then-order (chosenBy 0 _ _) (c .before .before .before .c .given .1) (chosen-greater 0 _ _ _ (c .enum-told2 .given .1))
 
 returns-3 : tie.Need-returns-3
-returns-3 c = then-order (chosenBy 0 _ _) (c .before .before .c .given .1) (chosen-other 0 _ _ _ (order-keys (λ o. not (isGreater o || isUnordered o)) 0 (1 ∷ []) (c .before .before .c .given .0 .0) (c .match2 .keys3) tt))
+returns-3 c = then-order (chosenBy 0 _ _) (c .before .before .c .given .1)
+    (chosen-other 0 _ _ _ (order-keys (λ o. not (isGreater o || isUnordered o)) 0 (1 ∷ []) (c .before .before .c .given .0 .0) (c .match2 .keys3) tt))
 
 returns-4 : tie.Need-returns-4
 returns-4 c = then-refusal (chosenBy 0 _ _) (c .before .c2 .given .1)

@@ -11,7 +11,9 @@ use Rattle.choose.proofs.choosing.clamp.Tie as tie
 low-is : (c : tie.After-low) → gives (c .low .given .0 .0) ≡ compareOf (c .before .before .before .args .v) (c .before .before .before .args .lower)
 low-is c = sym (ap comparedOutcome (c .low .given .1)) ∙ c .before .before .compare .ensures
 
-high-is : (c : tie.After-high) → gives (c .high .given .0 .0) ≡ compareOf (c .before .before .before .before .before .before .before .args .v) (c .before .before .before .before .before .before .before .args .upper)
+high-is : (c : tie.After-high)
+    → gives (c .high .given .0 .0)
+    ≡ compareOf (c .before .before .before .before .before .before .before .args .v) (c .before .before .before .before .before .before .before .args .upper)
 high-is c = sym (ap comparedOutcome (c .high .given .1)) ∙ c .before .before .compare2 .ensures
 
 returns : tie.Need-returns
@@ -19,7 +21,8 @@ returns c =
     let bounds = c .before .before in
     let high = bounds .before .before .before .before in
     let low = high .before .before .before .before in
-    clamp-clamped _ _ _ (low-is low) (high-is high) (sym (ap comparedOutcome (bounds .bounds .given .1)) ∙ bounds .before .before .compare3 .ensures) (c .clamped .ensures)
+    clamp-clamped _ _ _ (low-is low) (high-is high)
+    (sym (ap comparedOutcome (bounds .bounds .given .1)) ∙ bounds .before .before .compare3 .ensures) (c .clamped .ensures)
 
 returns-2 : tie.Need-returns-2
 returns-2 c =

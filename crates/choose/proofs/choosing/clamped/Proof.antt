@@ -26,7 +26,8 @@ returns-2 : tie.Need-returns-2
 returns-2 c = clamped-lower _ _ _ _ _ _ (in-order (c .before .before)) (ap isUnordered (c .enum-told2 .given .1)) (ap isLess (c .enum-told2 .given .1))
 
 returns-3 : tie.Need-returns-3
-returns-3 c = clamped-upper _ _ _ _ _ _ (in-order (c .before .before .before)) (low-ordered (c .before .before)) (not-below (c .before .before)) (ap isGreater (c .enum-told3 .given .1))
+returns-3 c = clamped-upper _ _ _ _ _ _ (in-order (c .before .before .before)) (low-ordered (c .before .before))
+    (not-below (c .before .before)) (ap isGreater (c .enum-told3 .given .1))
 
 returns-4 : tie.Need-returns-4
 returns-4 c =

@@ -29,25 +29,29 @@ cast-order-i64-6 : tie.Need-cast-order-i64-6
 cast-order-i64-6 c = narrow-fits {v = w32} (c .before .b7 .given .0 .0) (lit≤ tt) (search needs)
 
 returns : tie.Need-returns
-returns c = compare-integers (c .before .before .before .before .before .a .given .1) (c .before .before .b .given .1) refl (pos _) (pos _) refl refl (c .order-u64 .ensures)
+returns c = compare-integers (c .before .before .before .before .before .a .given .1) (c .before .before .b .given .1) refl
+    (pos _) (pos _) refl refl (c .order-u64 .ensures)
 
 returns-2 : tie.Need-returns-2
 returns-2 c = c .kinds-differ .ensures ∙ compare-refused _ (c .before .before .before .a .given .1) (c .before .match2 .keys2)
 
 returns-3 : tie.Need-returns-3
-returns-3 c = compare-integers (c .before .before .before .before .before .a2 .given .1) (c .before .before .b2 .given .1) refl (pos _) (pos _) refl refl (c .order-u642 .ensures)
+returns-3 c = compare-integers (c .before .before .before .before .before .a2 .given .1) (c .before .before .b2 .given .1) refl
+    (pos _) (pos _) refl refl (c .order-u642 .ensures)
 
 returns-4 : tie.Need-returns-4
 returns-4 c = c .kinds-differ2 .ensures ∙ compare-refused _ (c .before .before .before .a2 .given .1) (c .before .match3 .keys2)
 
 returns-5 : tie.Need-returns-5
-returns-5 c = compare-integers (c .before .before .before .before .before .a3 .given .1) (c .before .before .b3 .given .1) refl (pos _) (pos _) refl refl (c .order-u643 .ensures)
+returns-5 c = compare-integers (c .before .before .before .before .before .a3 .given .1) (c .before .before .b3 .given .1) refl
+    (pos _) (pos _) refl refl (c .order-u643 .ensures)
 
 returns-6 : tie.Need-returns-6
 returns-6 c = c .kinds-differ3 .ensures ∙ compare-refused _ (c .before .before .before .a3 .given .1) (c .before .match4 .keys2)
 
 returns-7 : tie.Need-returns-7
-returns-7 c = compare-integers (c .before .before .before .before .before .a4 .given .1) (c .before .before .b4 .given .1) refl (pos _) (pos _) refl refl (c .order-u644 .ensures)
+returns-7 c = compare-integers (c .before .before .before .before .before .a4 .given .1) (c .before .before .b4 .given .1) refl
+    (pos _) (pos _) refl refl (c .order-u644 .ensures)
 
 returns-8 : tie.Need-returns-8
 returns-8 c = c .kinds-differ4 .ensures ∙ compare-refused _ (c .before .before .before .a4 .given .1) (c .before .match5 .keys2)
@@ -56,7 +60,8 @@ returns-9 : tie.Need-returns-9
 returns-9 c =
     let x = c .before .before .before .before .before .a5 .given in
     let y = c .before .before .b5 .given in
-    compare-integers (x .1) (y .1) refl (x .0 .0) (y .0 .0) refl refl (narrow-order {v = w8} (x .0 .0) (y .0 .0) (lit≤ tt) (search needs) (search needs) (c .order-i64 .ensures))
+    compare-integers (x .1) (y .1) refl (x .0 .0) (y .0 .0) refl refl
+    (narrow-order {v = w8} (x .0 .0) (y .0 .0) (lit≤ tt) (search needs) (search needs) (c .order-i64 .ensures))
 
 returns-10 : tie.Need-returns-10
 returns-10 c = c .kinds-differ5 .ensures ∙ compare-refused _ (c .before .before .before .a5 .given .1) (c .before .match6 .keys2)
@@ -65,7 +70,8 @@ returns-11 : tie.Need-returns-11
 returns-11 c =
     let x = c .before .before .before .before .before .a6 .given in
     let y = c .before .before .b6 .given in
-    compare-integers (x .1) (y .1) refl (x .0 .0) (y .0 .0) refl refl (narrow-order {v = w16} (x .0 .0) (y .0 .0) (lit≤ tt) (search needs) (search needs) (c .order-i642 .ensures))
+    compare-integers (x .1) (y .1) refl (x .0 .0) (y .0 .0) refl refl
+    (narrow-order {v = w16} (x .0 .0) (y .0 .0) (lit≤ tt) (search needs) (search needs) (c .order-i642 .ensures))
 
 returns-12 : tie.Need-returns-12
 returns-12 c = c .kinds-differ6 .ensures ∙ compare-refused _ (c .before .before .before .a6 .given .1) (c .before .match7 .keys2)
@@ -74,7 +80,8 @@ returns-13 : tie.Need-returns-13
 returns-13 c =
     let x = c .before .before .before .before .before .a7 .given in
     let y = c .before .before .b7 .given in
-    compare-integers (x .1) (y .1) refl (x .0 .0) (y .0 .0) refl refl (narrow-order {v = w32} (x .0 .0) (y .0 .0) (lit≤ tt) (search needs) (search needs) (c .order-i643 .ensures))
+    compare-integers (x .1) (y .1) refl (x .0 .0) (y .0 .0) refl refl
+    (narrow-order {v = w32} (x .0 .0) (y .0 .0) (lit≤ tt) (search needs) (search needs) (c .order-i643 .ensures))
 
 returns-14 : tie.Need-returns-14
 returns-14 c = c .kinds-differ7 .ensures ∙ compare-refused _ (c .before .before .before .a7 .given .1) (c .before .match8 .keys2)
@@ -90,7 +97,8 @@ returns-16 c = c .kinds-differ8 .ensures ∙ compare-refused _ (c .before .befor
 
 returns-17 : tie.Need-returns-17
 returns-17 c =
-    compare-floats (c .before .before .before .before .before .before .before .a9 .given .1) (c .before .before .before .before .b9 .given .1) refl binary32 _ _ refl refl
+    compare-floats (c .before .before .before .before .before .before .before .a9 .given .1)
+    (c .before .before .before .before .b9 .given .1) refl binary32 _ _ refl refl
     (c .compare-f32 .ensures) (c .before .before .bits-f32 .ensures) (c .before .bits-f322 .ensures)
 
 returns-18 : tie.Need-returns-18
@@ -98,7 +106,8 @@ returns-18 c = c .kinds-differ9 .ensures ∙ compare-refused _ (c .before .befor
 
 returns-19 : tie.Need-returns-19
 returns-19 c =
-    compare-floats (c .before .before .before .before .before .before .before .a10 .given .1) (c .before .before .before .before .b10 .given .1) refl binary64 _ _ refl refl
+    compare-floats (c .before .before .before .before .before .before .before .a10 .given .1)
+    (c .before .before .before .before .b10 .given .1) refl binary64 _ _ refl refl
     (c .compare-f64 .ensures) (c .before .before .bits-f64 .ensures) (c .before .bits-f642 .ensures)
 
 returns-20 : tie.Need-returns-20

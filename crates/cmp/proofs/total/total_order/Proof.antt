@@ -20,9 +20,11 @@ returns : tie.Need-returns
 returns c =
     let second = c .before in
     let first = second .before .before in
-    let o : c .order-i64 .result ≡ orderZ (first .position-f32 .result) (second .position-f322 .result) = narrow-order {v = w32} (first .position-f32 .result) (second .position-f322 .result) (lit≤ tt) (search needs) (search needs) (c .order-i64 .ensures) in
+    let o : c .order-i64 .result ≡ orderZ (first .position-f32 .result) (second .position-f322 .result) =
+    narrow-order {v = w32} (first .position-f32 .result) (second .position-f322 .result) (lit≤ tt) (search needs) (search needs) (c .order-i64 .ensures) in
     total-given (first .before .before .before .before .before .before .a .given .1) (first .before .before .before .b .given .1) refl
-    (order-at o (first .position-f32 .ensures ∙ ap (positionOf 23 8) (first .before .bits-f32 .ensures)) (second .position-f322 .ensures ∙ ap (positionOf 23 8) (second .before .bits-f322 .ensures)))
+    (order-at o (first .position-f32 .ensures ∙ ap (positionOf 23 8) (first .before .bits-f32 .ensures))
+    (second .position-f322 .ensures ∙ ap (positionOf 23 8) (second .before .bits-f322 .ensures)))
 
 returns-2 : tie.Need-returns-2
 returns-2 c = c .kinds-differ .ensures ∙ total-refused _ (c .before .before .before .a .given .1) (c .before .match2 .keys2)
@@ -31,9 +33,11 @@ returns-3 : tie.Need-returns-3
 returns-3 c =
     let second = c .before in
     let first = second .before .before in
-    let o : c .order-i642 .result ≡ orderZ (first .position-f64 .result) (second .position-f642 .result) = wide-order (first .position-f64 .result) (second .position-f642 .result) (search needs) (search needs) (c .order-i642 .ensures) in
+    let o : c .order-i642 .result ≡ orderZ (first .position-f64 .result) (second .position-f642 .result) =
+    wide-order (first .position-f64 .result) (second .position-f642 .result) (search needs) (search needs) (c .order-i642 .ensures) in
     total-given (first .before .before .before .before .before .before .a2 .given .1) (first .before .before .before .b2 .given .1) refl
-    (order-at o (first .position-f64 .ensures ∙ ap (positionOf 52 11) (first .before .bits-f64 .ensures)) (second .position-f642 .ensures ∙ ap (positionOf 52 11) (second .before .bits-f642 .ensures)))
+    (order-at o (first .position-f64 .ensures ∙ ap (positionOf 52 11) (first .before .bits-f64 .ensures))
+    (second .position-f642 .ensures ∙ ap (positionOf 52 11) (second .before .bits-f642 .ensures)))
 
 returns-4 : tie.Need-returns-4
 returns-4 c = c .kinds-differ2 .ensures ∙ total-refused _ (c .before .before .before .a2 .given .1) (c .before .match3 .keys2)

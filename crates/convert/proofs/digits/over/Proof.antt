@@ -14,8 +14,10 @@ shl-t12 c = let a = c .before .args in shift-up (a .m) (a .g) (a .d) (c .if1 .ta
 
 returns : tie.Need-returns
 returns c =
-    let a = c .before .args in
-    (shift-up (a .m) (a .g) (a .d) (c .if1 .taken) (c .before .pre .0) (c .before .pre .1) .1, sym (ap not (eq-eqb _ _ (over-up (a .m) (a .g) (a .d) (c .if1 .taken) .0))))
+    let a = c .before .args in (
+      shift-up (a .m) (a .g) (a .d) (c .if1 .taken) (c .before .pre .0) (c .before .pre .1) .1,
+      sym (ap not (eq-eqb _ _ (over-up (a .m) (a .g) (a .d) (c .if1 .taken) .0))),
+    )
 
 returns-2 : tie.Need-returns-2
 returns-2 c =

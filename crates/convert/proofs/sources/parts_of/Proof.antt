@@ -67,7 +67,8 @@ returns-9 c =
     let bits = sign .before in
     let v = bits .before .before .v9 .given in
     c .float-parts .ensures
-    ∙ ap (times (stepOf binary32)) (taken-pattern binary32 (v .0 .0) (v .0 .1 .0) (bits .bits-f32 .ensures) (sign .is-sign-negative-f32 .ensures) (abs .abs-f32 .ensures))
+    ∙ ap (times (stepOf binary32))
+    (taken-pattern binary32 (v .0 .0) (v .0 .1 .0) (bits .bits-f32 .ensures) (sign .is-sign-negative-f32 .ensures) (abs .abs-f32 .ensures))
     ∙ sym (ap exactOf (v .1))
 
 returns-10 : tie.Need-returns-10
@@ -78,7 +79,8 @@ returns-10 c =
     let bits = sign .before in
     let v = bits .before .before .v10 .given in
     c .float-parts2 .ensures
-    ∙ ap (times (stepOf binary64)) (taken-pattern binary64 (v .0 .0) (v .0 .1 .0) (bits .bits-f64 .ensures) (sign .is-sign-negative-f64 .ensures) (abs .abs-f64 .ensures))
+    ∙ ap (times (stepOf binary64))
+    (taken-pattern binary64 (v .0 .0) (v .0 .1 .0) (bits .bits-f64 .ensures) (sign .is-sign-negative-f64 .ensures) (abs .abs-f64 .ensures))
     ∙ sym (ap exactOf (v .1))
 
 pub parts-of-spec : {M : Type 1} → statement M

@@ -22,7 +22,8 @@ returns-2 c =
     let a = s .args in
     let f = field-small (a .last + 2) (a .p) (a .last + 2) (omega arith) (omega (arith, s .pre .1)) (s .pre .0) in
     let i : (a .last + 2) * 2 ^ a .p % 2 ^ 64 ≡ (a .last + 2) * 2 ^ a .p = mod-eq-of-lt (omega arith) in
-    ap (λ (n : ℕ). gives (c .before .x .given .0 .0, n)) i ∙ sym (ap (λ (x : Parts). patternIn (a .p) (2 ^ a .c) (a .last) (meaning x)) (c .before .x .given .1))
+    ap (λ (n : ℕ). gives (c .before .x .given .0 .0, n)) i
+    ∙ sym (ap (λ (x : Parts). patternIn (a .p) (2 ^ a .c) (a .last) (meaning x)) (c .before .x .given .1))
 
 returns-3 : tie.Need-returns-3
 unfolding patternIn

@@ -69,7 +69,8 @@ returns-3 c =
     let divided = c .before .before .before .before in
     let j = joined divided in
     let a = start j .args in
-    held-over (a .p) (a .c) (S j) (j .if2 .k) (k-is j) (a .last) (a .s) (c .before .before .if5 .taken) (rest-left divided (c .before .before .before .if4 .taken))
+    held-over (a .p) (a .c) (S j) (j .if2 .k) (k-is j) (a .last) (a .s) (c .before .before .if5 .taken)
+    (rest-left divided (c .before .before .before .if4 .taken))
     (sym (divided .over .ensures .0) ∙ c .if6 .taken ∙ ap (λ (x : ℕ). x - 1) (ones divided))
 
 returns-4 : tie.Need-returns-4
@@ -77,15 +78,18 @@ returns-4 c =
     let divided = c .before .before .before .before in
     let j = joined divided in
     let a = start j .args in
-    let w : S j / 2 ^ (j .if2 .k + a .c) ≡ 2 ^ suc (a .p) - 1 → ⊥ = λ e. c .if6 .left (divided .over .ensures .0 ∙ e ∙ sym (ap (λ (x : ℕ). x - 1) (ones divided))) in
-    held-none (a .p) (a .c) (S j) (j .if2 .k) (k-is j) (a .last) (a .s) (near divided) (rest-left divided (c .before .before .before .if4 .taken)) (inr (let f = few j in omega arith))
+    let w : S j / 2 ^ (j .if2 .k + a .c) ≡ 2 ^ suc (a .p) - 1 → ⊥ =
+    λ e. c .if6 .left (divided .over .ensures .0 ∙ e ∙ sym (ap (λ (x : ℕ). x - 1) (ones divided))) in
+    held-none (a .p) (a .c) (S j) (j .if2 .k) (k-is j) (a .last) (a .s) (near divided)
+    (rest-left divided (c .before .before .before .if4 .taken)) (inr (let f = few j in omega arith))
 
 returns-5 : tie.Need-returns-5
 returns-5 c =
     let divided = c .before .before in
     let j = joined divided in
     let a = start j .args in
-    held-none (a .p) (a .c) (S j) (j .if2 .k) (k-is j) (a .last) (a .s) (near divided) (rest-left divided (c .before .if4 .taken)) (inl (omega (arith, c .if5 .left, near divided)))
+    held-none (a .p) (a .c) (S j) (j .if2 .k) (k-is j) (a .last) (a .s) (near divided) (rest-left divided (c .before .if4 .taken))
+    (inl (omega (arith, c .if5 .left, near divided)))
 
 field : (c : tie.After-over) → joined c .if2 .k * 2 ^ start (joined c) .args .p ≤ 2047 * 2 ^ 52
 field c = let s = start (joined c) in field-small (joined c .if2 .k) (s .args .p) (s .args .last) (near c) (omega (arith, s .pre .1)) (s .pre .0)

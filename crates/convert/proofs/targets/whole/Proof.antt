@@ -21,7 +21,8 @@ returns-2 c =
     let sized = c .before in
     let s = sized .before .before in
     let z : 0 < s .args .m = omega (arith, sized .before .if1 .left) in
-    let q = quotient-large (s .args .m) (s .args .g) 1074 z (omega (arith, sized .size-of .ensures)) (omega (arith, c .if2 .taken, sized .size-of .ensures .0)) in
+    let q = quotient-large (s .args .m) (s .args .g) 1074 z (omega (arith, sized .size-of .ensures))
+    (omega (arith, c .if2 .taken, sized .size-of .ensures .0)) in
     whole-large (s .args .low) (s .args .high) (s .args .s) (s .args .m * 2 ^ s .args .g) (s .fits .low .fits) (s .fits .high .fits) (q .0) (q .1)
 
 over-requires : tie.Need-over-requires
@@ -55,7 +56,9 @@ returns-4 c =
     let joined = c .before .before in
     let divided = joined .before .before in
     let a = divided .before .before .before .before .args in
-    let l : cond (a .s) (a .low) (a .high) < a .m * 2 ^ a .g / unit = subst (λ (n : ℕ). cond (a .s) (a .low) (a .high) < n) (quotient-is divided) (subst (λ (n : ℕ). n < divided .over .result .quotient) (limit-is joined) (c .if5 .taken)) in
+    let l : cond (a .s) (a .low) (a .high) < a .m * 2 ^ a .g / unit =
+    subst (λ (n : ℕ). cond (a .s) (a .low) (a .high) < n) (quotient-is divided)
+    (subst (λ (n : ℕ). n < divided .over .result .quotient) (limit-is joined) (c .if5 .taken)) in
     whole-outside (a .low) (a .high) (a .s) (a .m * 2 ^ a .g) (sym (fraction-is divided) ∙ joined .before .if3 .left) l
 
 returns-5 : tie.Need-returns-5
@@ -63,7 +66,9 @@ returns-5 c =
     let joined = c .before .before in
     let divided = joined .before .before in
     let a = divided .before .before .before .before .args in
-    let l : a .m * 2 ^ a .g / unit ≤ cond (a .s) (a .low) (a .high) = subst (λ (n : ℕ). n ≤ cond (a .s) (a .low) (a .high)) (quotient-is divided) (subst (λ (n : ℕ). divided .over .result .quotient ≤ n) (limit-is joined) (c .if5 .left)) in
+    let l : a .m * 2 ^ a .g / unit ≤ cond (a .s) (a .low) (a .high) =
+    subst (λ (n : ℕ). n ≤ cond (a .s) (a .low) (a .high)) (quotient-is divided)
+    (subst (λ (n : ℕ). divided .over .result .quotient ≤ n) (limit-is joined) (c .if5 .left)) in
     ap (λ (n : ℕ). gives (a .s, n)) (quotient-is divided)
     ∙ whole-inside (a .low) (a .high) (a .s) (a .m * 2 ^ a .g) (sym (fraction-is divided) ∙ joined .before .if3 .left) l
 

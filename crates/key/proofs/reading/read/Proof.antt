@@ -33,7 +33,8 @@ returns-2 c =
     let counted = c .before .before in
     let bad = counted .before .before in
     let start = bad .before .before in
-    c .refused2 .ensures ∙ read-bad-length (start .args .t1) (start .args .key .now) (bad .bad-count .ensures) (counted .before .if1 .left) (counted .shape-length .ensures) (c .before .if2 .taken)
+    c .refused2 .ensures ∙ read-bad-length (start .args .t1) (start .args .key .now) (bad .bad-count .ensures)
+    (counted .before .if1 .left) (counted .shape-length .ensures) (c .before .if2 .taken)
 
 loop-holds : tie.Need-loop-holds Inv-loop μ-loop
 loop-holds c =
@@ -54,7 +55,8 @@ bits-in-requires : tie.Need-bits-in-requires Inv-loop μ-loop
 bits-in-requires c κs =
     let b = c .before .before .before .before .before in
     let start = b .before .before .before .before .before .before .before in
-    number-room (getD (start .args .t1 .places) (b .loop .at) (record { kind = U8 }) .kind) (c .before .weights-of .ensures) (rw (c .before .before .bytes-of .ensures .0) at (c .read-number .ensures .1))
+    number-room (getD (start .args .t1 .places) (b .loop .at) (record { kind = U8 }) .kind) (c .before .weights-of .ensures)
+    (rw (c .before .before .bytes-of .ensures .0) at (c .read-number .ensures .1))
 
 returns-3 : tie.Need-returns-3 Inv-loop μ-loop
 returns-3 c =
@@ -63,8 +65,11 @@ returns-3 c =
     let bytes = bits .before .before .before in
     let b = bytes .before .before .before in
     let start = b .before .before .before .before .before .before .before in
-    c .refused3 .ensures ∙ read-stop (start .args .t1) (b .loop .inv .5) (twelve start) (start .args .key .now) (b .loop .made) (b .loop .from) (b .loop .at) (b .loop .inv)
-    (record { kind = U8 }) (bytes .before .before .loop-test .taken) (bytes .bytes-of .ensures) (bits .before .read-number .ensures .0) (bits .before .before .weights-of .ensures) (bits .bits-in .ensures) (tested .foreign-in .ensures) (c .before .if3 .taken)
+    c .refused3 .ensures ∙ read-stop (start .args .t1) (b .loop .inv .5) (twelve start) (start .args .key .now) (b .loop .made)
+    (b .loop .from) (b .loop .at) (b .loop .inv)
+    (record { kind = U8 }) (bytes .before .before .loop-test .taken) (bytes .bytes-of .ensures)
+    (bits .before .read-number .ensures .0) (bits .before .before .weights-of .ensures) (bits .bits-in .ensures)
+    (tested .foreign-in .ensures) (c .before .if3 .taken)
 
 loop-again : tie.Need-loop-again Inv-loop μ-loop
 loop-again c =
@@ -74,13 +79,16 @@ loop-again c =
     let b = bytes .before .before .before in
     let start = b .before .before .before .before .before .before .before in
     read-step (start .args .t1) (b .loop .inv .5) (twelve start) (start .args .key .now) (b .loop .made) (b .loop .from) (b .loop .at) (b .loop .inv)
-    (record { kind = U8 }) (bytes .before .before .loop-test .taken) (bytes .bytes-of .ensures) (bits .before .read-number .ensures .0) (bits .before .before .weights-of .ensures) (bits .bits-in .ensures) (tested .foreign-in .ensures) (c .before .if3 .left) (c .value-of .ensures)
+    (record { kind = U8 }) (bytes .before .before .loop-test .taken) (bytes .bytes-of .ensures)
+    (bits .before .read-number .ensures .0) (bits .before .before .weights-of .ensures) (bits .bits-in .ensures)
+    (tested .foreign-in .ensures) (c .before .if3 .left) (c .value-of .ensures)
 
 returns-4 : tie.Need-returns-4 Inv-loop μ-loop
 returns-4 c =
     let b = c .before in
     let start = b .before .before .before .before .before .before .before in
-    read-end (start .args .t1) (b .loop .inv .5) (twelve start) (start .args .key .now) (b .loop .made) (b .loop .from) (b .loop .at) (b .loop .inv) (c .loop-test .left)
+    read-end (start .args .t1) (b .loop .inv .5) (twelve start) (start .args .key .now) (b .loop .made) (b .loop .from)
+    (b .loop .at) (b .loop .inv) (c .loop-test .left)
 
 pub read-spec : {M : Type 1} → statement M
 read-spec =

@@ -19,19 +19,29 @@ mul-n : tie.Need-mul-n Inv-loop μ-loop
 mul-n c =
     let b = c .before in
     let start = b .before .before in
-    record { fits = omega (arith, gather-room (start .args .key .now) (start .args .from) (start .args .width) (b .loop .n) (b .loop .i) 0 (b .loop .inv) (c .loop-test .taken) (omega arith) (start .pre .0)) }
+    record {
+      fits = omega (
+        arith,
+        gather-room (start .args .key .now) (start .args .from) (start .args .width) (b .loop .n) (b .loop .i) 0
+            (b .loop .inv) (c .loop-test .taken) (omega arith) (start .pre .0),
+      );
+    }
 
 add-n : tie.Need-add-n Inv-loop μ-loop
 add-n c =
     let b = c .before .before .before in
     let start = b .before .before in
-    record { fits = gather-room (start .args .key .now) (start .args .from) (start .args .width) (b .loop .n) (b .loop .i) (c .wide .result) (b .loop .inv) (c .before .before .loop-test .taken) (c .wide .ensures .1) (start .pre .0) }
+    record {
+      fits = gather-room (start .args .key .now) (start .args .from) (start .args .width) (b .loop .n) (b .loop .i)
+          (c .wide .result) (b .loop .inv) (c .before .before .loop-test .taken) (c .wide .ensures .1) (start .pre .0);
+    }
 
 loop-again : tie.Need-loop-again Inv-loop μ-loop
 loop-again c =
     let b = c .before .before .before in
     let start = b .before .before in
-    gather-step (start .args .key .now) (start .args .from) (start .args .width) (b .loop .n) (b .loop .i) (c .wide .result) (b .loop .inv) (c .before .before .loop-test .taken) (c .wide .ensures .1) (start .pre .1) (c .wide .ensures .0)
+    gather-step (start .args .key .now) (start .args .from) (start .args .width) (b .loop .n) (b .loop .i) (c .wide .result)
+    (b .loop .inv) (c .before .before .loop-test .taken) (c .wide .ensures .1) (start .pre .1) (c .wide .ensures .0)
 
 returns : tie.Need-returns Inv-loop μ-loop
 returns c =

@@ -24,13 +24,15 @@ returns : tie.Need-returns Inv-loop μ-loop
 returns c =
     let b = c .before .before .before .before in
     let start = b .before in
-    pass-stop (start .args .t1) (start .pre) (twelve start) (b .loop .at) (record { value = U8 0 }) (c .before .before .before .loop-test .taken) (b .loop .inv) (c .before .is-nan .ensures) (c .if1 .taken)
+    pass-stop (start .args .t1) (start .pre) (twelve start) (b .loop .at) (record { value = U8 0 })
+    (c .before .before .before .loop-test .taken) (b .loop .inv) (c .before .is-nan .ensures) (c .if1 .taken)
 
 loop-again : tie.Need-loop-again Inv-loop μ-loop
 loop-again c =
     let b = c .before .before .before .before in
     let start = b .before in
-    pass-step (start .args .t1) (start .pre) (twelve start) (b .loop .at) (record { value = U8 0 }) (c .before .before .before .loop-test .taken) (b .loop .inv) (c .before .is-nan .ensures) (c .if1 .left)
+    pass-step (start .args .t1) (start .pre) (twelve start) (b .loop .at) (record { value = U8 0 })
+    (c .before .before .before .loop-test .taken) (b .loop .inv) (c .before .is-nan .ensures) (c .if1 .left)
 
 returns-2 : tie.Need-returns-2 Inv-loop μ-loop
 returns-2 c =

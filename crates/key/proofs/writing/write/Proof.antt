@@ -33,12 +33,15 @@ returns-3 c =
     let bad = counted .before .before in
     let start = bad .before .before in
     write-nan (start .args .r) (start .args .buffer .now) (bad .bad-count .ensures) (counted .before .if1 .left)
-    (counted .key-length .ensures) (looked .before .if2 .left) (looked .first-nan .result) (looked .first-nan .ensures) (c .before .if3 .taken) (c .refused3 .ensures)
+    (counted .key-length .ensures) (looked .before .if2 .left) (looked .first-nan .result) (looked .first-nan .ensures)
+    (c .before .if3 .taken) (c .refused3 .ensures)
 
 write-fields-requires : tie.Need-write-fields-requires
 write-fields-requires c κs =
-    let counted = c .before .before .before .before in
-    (good-count _ (sym (counted .before .before .bad-count .ensures) ∙ counted .before .if1 .left), rw (counted .key-length .ensures) at (c .before .before .before .if2 .left))
+    let counted = c .before .before .before .before in (
+      good-count _ (sym (counted .before .before .bad-count .ensures) ∙ counted .before .if1 .left),
+      rw (counted .key-length .ensures) at (c .before .before .before .if2 .left),
+    )
 
 returns-4 : tie.Need-returns-4
 returns-4 c =
@@ -48,7 +51,8 @@ returns-4 c =
     let bad = counted .before .before in
     let start = bad .before .before in
     write-done (start .args .r) (start .args .buffer .now) (bad .bad-count .ensures) (counted .before .if1 .left)
-    (counted .key-length .ensures) (looked .before .if2 .left) (looked .first-nan .result) (looked .first-nan .ensures) (filled .before .before .if3 .left) (filled .write-fields .ensures)
+    (counted .key-length .ensures) (looked .before .if2 .left) (looked .first-nan .result) (looked .first-nan .ensures)
+    (filled .before .before .if3 .left) (filled .write-fields .ensures)
 
 pub write-spec : {M : Type 1} → statement M
 write-spec =

@@ -25,22 +25,27 @@ write-number-requires c κs =
     let lent = c .before in
     let b = lent .before .before .before .before .before in
     let start = b .before .before in
-    laid-room (start .args .t1) (start .pre .0) (twelve start) (start .args .buffer .now) (start .pre .1) (b .loop .buffer) (b .loop .to) (b .loop .at) (b .loop .inv)
-    (record { value = U8 0 }) (lent .before .before .before .before .loop-test .taken) (lent .before .before .kind-of .ensures) (lent .before .bytes-of .ensures)
+    laid-room (start .args .t1) (start .pre .0) (twelve start) (start .args .buffer .now) (start .pre .1) (b .loop .buffer)
+    (b .loop .to) (b .loop .at) (b .loop .inv)
+    (record { value = U8 0 }) (lent .before .before .before .before .loop-test .taken) (lent .before .before .kind-of .ensures)
+    (lent .before .bytes-of .ensures)
 
 loop-again : tie.Need-loop-again Inv-loop μ-loop
 loop-again c =
     let lent = c .before .before .before .before in
     let b = lent .before .before .before .before .before in
     let start = b .before .before in
-    laid-step (start .args .t1) (start .pre .0) (twelve start) (start .args .buffer .now) (start .pre .1) (b .loop .buffer) (b .loop .to) (b .loop .at) (b .loop .inv)
-    (record { value = U8 0 }) (lent .before .before .before .before .loop-test .taken) (lent .before .before .kind-of .ensures) (lent .before .bytes-of .ensures) (c .before .before .before .number-of .ensures) (c .before .before .write-number .ensures)
+    laid-step (start .args .t1) (start .pre .0) (twelve start) (start .args .buffer .now) (start .pre .1) (b .loop .buffer)
+    (b .loop .to) (b .loop .at) (b .loop .inv)
+    (record { value = U8 0 }) (lent .before .before .before .before .loop-test .taken) (lent .before .before .kind-of .ensures)
+    (lent .before .bytes-of .ensures) (c .before .before .before .number-of .ensures) (c .before .before .write-number .ensures)
 
 returns : tie.Need-returns Inv-loop μ-loop
 returns c =
     let b = c .before in
     let start = b .before .before in
-    laid-end (start .args .t1) (start .pre .0) (twelve start) (start .args .buffer .now) (start .pre .1) (b .loop .buffer) (b .loop .to) (b .loop .at) (b .loop .inv) (c .loop-test .left)
+    laid-end (start .args .t1) (start .pre .0) (twelve start) (start .args .buffer .now) (start .pre .1) (b .loop .buffer)
+    (b .loop .to) (b .loop .at) (b .loop .inv) (c .loop-test .left)
 
 pub write-fields-spec : {M : Type 1} → statement M
 write-fields-spec =

@@ -30,7 +30,8 @@ loop-again c =
     let counted = b .before in
     let a = counted .before .before .args in
     let l = samplesOf (a .from) (a .src .now) in
-    let below : b .loop .i < length l = omega (arith, length-samples (a .from) (countOf (a .from) (a .src .now)) (a .src .now), counted .count .ensures, turn .loop-test .taken) in
+    let below : b .loop .i < length l =
+    omega (arith, length-samples (a .from) (countOf (a .from) (a .src .now)) (a .src .now), counted .count .ensures, turn .loop-test .taken) in
     c .noted .ensures ∙ noted-more (a .to) (a .s) l (b .loop .i) (valueOf (a .from) 0) below (sym (sampled .sample-at .ensures)) (b .loop .inv)
 
 returns : tie.Need-returns Inv-loop μ-loop
@@ -39,7 +40,9 @@ returns c =
     let counted = b .before in
     let a = counted .before .before .args in
     let l = samplesOf (a .from) (a .src .now) in
-    b .loop .inv ∙ ap (allNoted (a .to) (a .s)) (take-all (b .loop .i) l (omega (arith, length-samples (a .from) (countOf (a .from) (a .src .now)) (a .src .now), counted .count .ensures, c .loop-test .left)))
+    b .loop .inv ∙ ap (allNoted (a .to) (a .s))
+    (take-all (b .loop .i) l
+    (omega (arith, length-samples (a .from) (countOf (a .from) (a .src .now)) (a .src .now), counted .count .ensures, c .loop-test .left)))
 
 pub all-noted-spec : {M : Type 1} → statement M
 all-noted-spec =

@@ -23,7 +23,8 @@ returns : tie.Need-returns
 returns c =
     let other = c .before .before in
     let own = other .before in
-    rw (← own .bytes-of .ensures .0, ← other .bytes-of2 .ensures .0) (samples-room (c .before .if1 .samples) (own .bytes-of .result) (other .bytes-of2 .result) (own .bytes-of .ensures .1) (fit (c .before)))
+    rw (← own .bytes-of .ensures .0, ← other .bytes-of2 .ensures .0)
+    (samples-room (c .before .if1 .samples) (own .bytes-of .result) (other .bytes-of2 .result) (own .bytes-of .ensures .1) (fit (c .before)))
 
 pub block-bytes-spec : {M : Type 1} → statement M
 block-bytes-spec = tie.close (tie.spec (λ c κs. search needs) (λ c κs. search needs) (λ c. search needs) mul-result returns)

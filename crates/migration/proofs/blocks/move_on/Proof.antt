@@ -11,8 +11,11 @@ use Rattle.migration.proofs.blocks.move_on.Tie as tie
 write-block-requires : tie.Need-write-block-requires
 write-block-requires c κs =
     let s = c .before .before .before .before .before .before .before in
-    let a = s .args in
-    (fewer-room (a .got .bytes) (blockBytes (a .from) (a .to)) (bytesOf (a .from)) (bytesOf (a .to)) (bytes-range (a .from) .0) (s .pre .2) (block-room (a .from) (a .to) .1), search needs)
+    let a = s .args in (
+      fewer-room (a .got .bytes) (blockBytes (a .from) (a .to)) (bytesOf (a .from)) (bytesOf (a .to)) (bytes-range (a .from) .0)
+          (s .pre .2) (block-room (a .from) (a .to) .1),
+      search needs,
+    )
 
 returns : tie.Need-returns
 returns c =
@@ -24,7 +27,8 @@ returns c =
         s .pre .4,
         converted .convert .ensures,
         c .before .write-block .ensures,
-        by-size (a .from) (a .to) (a .src .now) (a .got .bytes) (s .pre .1) (c .turns-left .result) (a .r .turns) (a .got .full) (c .before .write-block .result) (c .turns-left .ensures .0) (s .pre .3),
+        by-size (a .from) (a .to) (a .src .now) (a .got .bytes) (s .pre .1) (c .turns-left .result) (a .r .turns) (a .got .full)
+            (c .before .write-block .result) (c .turns-left .ensures .0) (s .pre .3),
       ),
     )
 

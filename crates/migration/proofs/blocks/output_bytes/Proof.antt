@@ -7,7 +7,9 @@ use borrow.Author.Needs.{needs}
 use Rattle.migration.proofs.blocks.output_bytes.Statement.{statement}
 use Rattle.migration.proofs.blocks.output_bytes.Tie as tie
 
-product : (c : tie.After-bytes-of2) → c .before .before .args .bytes / c .before .bytes-of .result * c .bytes-of2 .result ≡ c .before .before .args .bytes / bytesOf (c .before .before .args .from) * bytesOf (c .before .before .args .to)
+product : (c : tie.After-bytes-of2)
+    → c .before .before .args .bytes / c .before .bytes-of .result * c .bytes-of2 .result
+    ≡ c .before .before .args .bytes / bytesOf (c .before .before .args .from) * bytesOf (c .before .before .args .to)
 product c = rw (c .before .bytes-of .ensures .0, c .bytes-of2 .ensures .0) refl
 
 pub output-bytes-spec : {M : Type 1} → statement M

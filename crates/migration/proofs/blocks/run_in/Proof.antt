@@ -15,7 +15,8 @@ led-on c =
     let stepped = c .before .before in
     let then = stepped .before .before .before .before in
     let at = then .before .before in
-    next-turn (at .before .before .args .from) (at .before .before .args .to) (at .loop .r) (stepped .step .result) _ _ _ (at .loop .inv) (then .if1 .taken) (stepped .step .ensures .1)
+    next-turn (at .before .before .args .from) (at .before .before .args .to) (at .loop .r) (stepped .step .result) _ _ _
+    (at .loop .inv) (then .if1 .taken) (stepped .step .ensures .1)
 
 pub run-in-spec : {M : Type 1} → statement M
 run-in-spec =

@@ -15,14 +15,21 @@ failed : tie.Need-returns
 failed c = (search needs, inl ((refl, refl, refl), refl))
 
 -- as much was asked for as a block has
-asked : (c : tie.After-read-block) → min (c .before .before .block-bytes .result) (length (c .before .before .before .before .args .src .now)) ≡ blockBytes (c .before .before .before .before .args .from) (c .before .before .before .before .args .to)
+asked : (c : tie.After-read-block)
+    → min (c .before .before .block-bytes .result) (length (c .before .before .before .before .args .src .now))
+    ≡ blockBytes (c .before .before .before .before .args .from) (c .before .before .before .before .args .to)
 asked c = within _ _ (search needs) ∙ c .before .before .block-bytes .ensures .0
 
 move-on-requires : tie.Need-move-on-requires
 move-on-requires c κs =
     let read = c .before .before .before .before in
-    let n = read .read-block .result .bytes in
-    (search needs, search needs, subst (λ (k : ℕ). n ≤ k) (asked read) (read .read-block .ensures .0), read .read-block .ensures .1 ∙ ap (eqb n) (asked read), search needs)
+    let n = read .read-block .result .bytes in (
+      search needs,
+      search needs,
+      subst (λ (k : ℕ). n ≤ k) (asked read) (read .read-block .ensures .0),
+      read .read-block .ensures .1 ∙ ap (eqb n) (asked read),
+      search needs,
+    )
 
 moved : tie.Need-returns-2
 moved c =

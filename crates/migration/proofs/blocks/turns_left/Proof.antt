@@ -9,7 +9,8 @@ use borrow.Author.Needs.{needs}
 use Rattle.migration.proofs.blocks.turns_left.Statement.{statement}
 use Rattle.migration.proofs.blocks.turns_left.Tie as tie
 
-spent : (turns : ℕ) (full : Bool) (fault : Fault) → 0 < turns → full ≡ true → isNothing fault ≡ true → (turns - 1 ≡ turnsLeft turns full fault) × (turns - 1 < turns)
+spent : (turns : ℕ) (full : Bool) (fault : Fault) → 0 < turns → full ≡ true → isNothing fault ≡ true
+    → (turns - 1 ≡ turnsLeft turns full fault) × (turns - 1 < turns)
 spent turns full fault some on well = (rw (on, well) refl, omega (arith, some))
 
 returns : tie.Need-returns

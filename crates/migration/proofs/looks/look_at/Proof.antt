@@ -15,7 +15,8 @@ returns c =
       (
         c .before .look-block .ensures,
         refl,
-        by-size (a .from) (a .from) (a .src .now) (a .got .bytes) (s .pre .1) (c .turns-left .result) (a .r .turns) (a .got .full) Nothing (c .turns-left .ensures .0) (s .pre .2),
+        by-size (a .from) (a .from) (a .src .now) (a .got .bytes) (s .pre .1) (c .turns-left .result) (a .r .turns) (a .got .full)
+            Nothing (c .turns-left .ensures .0) (s .pre .2),
       ),
     )
 

@@ -15,7 +15,8 @@ led-on c =
     let looked = c .before .before in
     let then = looked .before .before .before in
     let at = then .before .before in
-    next-look (at .before .before .args .from) (at .before .before .args .to) (at .loop .r) (looked .look-on .result) _ (at .loop .inv) (then .if1 .taken) (looked .look-on .ensures .1)
+    next-look (at .before .before .args .from) (at .before .before .args .to) (at .loop .r) (looked .look-on .result) _
+    (at .loop .inv) (then .if1 .taken) (looked .look-on .ensures .1)
 
 pub look-in-spec : {M : Type 1} → statement M
 look-in-spec =

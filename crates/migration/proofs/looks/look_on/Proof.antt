@@ -15,7 +15,9 @@ failed : tie.Need-returns
 failed c = (search needs, inl (refl, refl, refl))
 
 -- as much was asked for as a block has
-asked : (c : tie.After-read-block) → min (c .before .before .block-bytes .result) (length (c .before .before .before .before .args .src .now)) ≡ blockBytes (c .before .before .before .before .args .from) (c .before .before .before .before .args .from)
+asked : (c : tie.After-read-block)
+    → min (c .before .before .block-bytes .result) (length (c .before .before .before .before .args .src .now))
+    ≡ blockBytes (c .before .before .before .before .args .from) (c .before .before .before .before .args .from)
 asked c = within _ _ (search needs) ∙ c .before .before .block-bytes .ensures .0
 
 look-at-requires : tie.Need-look-at-requires

@@ -13,13 +13,19 @@ use Rattle.record.proofs.choices.chosen_by.Statement.{statement}
 use Rattle.record.proofs.choices.chosen_by.Tie as tie
 
 returns : tie.Need-returns
-returns c = c .refused .ensures ∙ ap recordedOf (then-decision (chosenFrom _ _) (c .before .before .before .before .d .given .1) (chosen-unordered _ _ _ _ (c .before .enum-told .given .1)))
+returns c = c .refused .ensures
+    ∙ ap recordedOf (then-decision (chosenFrom _ _) (c .before .before .before .before .d .given .1)
+    (chosen-unordered _ _ _ _ (c .before .enum-told .given .1)))
 
 returns-2 : tie.Need-returns-2
-returns-2 c = c .done .ensures ∙ ap recordedOf (then-decision (chosenFrom _ _) (c .before .before .before .before .d .given .1) (chosen-greater _ _ _ _ (c .before .enum-told2 .given .1)))
+returns-2 c = c .done .ensures
+    ∙ ap recordedOf (then-decision (chosenFrom _ _) (c .before .before .before .before .d .given .1) (chosen-greater _ _ _ _ (c .before .enum-told2 .given .1)))
 
 returns-3 : tie.Need-returns-3
-returns-3 c = c .done2 .ensures ∙ ap recordedOf (then-decision (chosenFrom _ _) (c .before .before .before .d .given .1) (chosen-other _ _ _ _ (order-keys (λ o. not (isGreater o || isUnordered o)) 0 (1 ∷ []) (c .before .before .before .d .given .0 .0 .order) (c .before .match2 .keys3) tt)))
+returns-3 c = c .done2 .ensures
+    ∙ ap recordedOf (then-decision (chosenFrom _ _) (c .before .before .before .d .given .1)
+    (chosen-other _ _ _ _
+    (order-keys (λ o. not (isGreater o || isUnordered o)) 0 (1 ∷ []) (c .before .before .before .d .given .0 .0 .order) (c .before .match2 .keys3) tt)))
 
 returns-4 : tie.Need-returns-4
 returns-4 c = c .refused2 .ensures ∙ ap recordedOf (then-refusal (chosenFrom _ _) (c .before .before .d2 .given .1))

@@ -39,7 +39,9 @@ order-here : (t : ℕ) (c : compare-from-lts.After-order-of (
   compare-from-below t,
   compare-from.Post,
 ) (compare-from-at t) compare-from.Post)
-    → c .order-of .result ≡ valueOrder (valueAt (c .before .before .before .before .args .a .fields) (c .before .before .before .before .args .at)) (valueAt (c .before .before .before .before .args .b .fields) (c .before .before .before .before .args .at))
+    → c .order-of .result
+    ≡ valueOrder (valueAt (c .before .before .before .before .args .a .fields) (c .before .before .before .before .args .at))
+    (valueAt (c .before .before .before .before .args .b .fields) (c .before .before .before .before .args .at))
 order-here t c = rw (← c .before .before .value-at .ensures, ← c .before .value-at2 .ensures) (c .order-of .ensures)
 
 returns : (t : ℕ) → compare-from-lts.Need-returns (
@@ -63,7 +65,8 @@ order-of-requires : (t : ℕ) → compare-from-lts.Need-order-of-requires (
 order-of-requires t c κs =
     let s = c .before .before .before in
     rw (c .before .value-at .ensures, c .value-at2 .ensures)
-    (kinds-here (s .args .a) (s .args .b) _ _ (s .good .0 .1 .1 .0 .1 .0 .1) (s .good .1 .0 .1 .1 .0 .1 .0 .1) (c .before .before .if1 .left) (s .pre .1 .0) (s .pre .1 .1))
+    (kinds-here (s .args .a) (s .args .b) _ _ (s .good .0 .1 .1 .0 .1 .0 .1) (s .good .1 .0 .1 .1 .0 .1 .0 .1)
+    (c .before .before .if1 .left) (s .pre .1 .0) (s .pre .1 .1))
 
 compare-from-requires : (t : ℕ) → compare-from-lts.Need-compare-from-requires (
   value-at-reads.Asked,
@@ -75,8 +78,13 @@ compare-from-requires : (t : ℕ) → compare-from-lts.Need-compare-from-require
 ) (compare-from-at t) compare-from.Post
 compare-from-requires t c κs =
     let some = c .before .before .before .before .before .if1 .left in
-    let s = c .before .before .before .before .before .before in
-    (omega arith, (omega arith, shape-behind (s .args .a) (s .args .b) _ _ (s .good .0 .1 .1 .0 .1 .0 .1) (s .good .1 .0 .1 .1 .0 .1 .0 .1) some (s .pre .1 .0) (s .pre .1 .1)))
+    let s = c .before .before .before .before .before .before in (
+      omega arith,
+      (
+        omega arith,
+        shape-behind (s .args .a) (s .args .b) _ _ (s .good .0 .1 .1 .0 .1 .0 .1) (s .good .1 .0 .1 .1 .0 .1 .0 .1) some (s .pre .1 .0) (s .pre .1 .1),
+      ),
+    )
 
 returns-2 : (t : ℕ) → compare-from-lts.Need-returns-2 (
   value-at-reads.Asked,
@@ -90,7 +98,8 @@ returns-2 t c =
     let some = c .before .before .before .before .before .before .if1 .left in
     let s = c .before .before .before .before .before .before .before in
     c .compare-from .ensures
-    ∙ decided-behind (s .args .a) (s .args .b) _ _ (s .good .0 .1 .1 .0 .1 .0 .1) (s .good .1 .0 .1 .1 .0 .1 .0 .1) some (s .pre .1 .0) (sym (c .before .enum-told .given .1) ∙ order-here t (c .before .before .before))
+    ∙ decided-behind (s .args .a) (s .args .b) _ _ (s .good .0 .1 .1 .0 .1 .0 .1) (s .good .1 .0 .1 .1 .0 .1 .0 .1) some
+    (s .pre .1 .0) (sym (c .before .enum-told .given .1) ∙ order-here t (c .before .before .before))
 
 returns-3 : (t : ℕ) → compare-from-lts.Need-returns-3 (
   value-at-reads.Asked,
@@ -104,7 +113,8 @@ returns-3 t c =
     let s = c .before .before .before .before .before in
     let o = c .before .order-of .result in
     let stop = not-true (isEqual o) (order-keys (λ p. not (isEqual p)) 0 (2 ∷ 3 ∷ []) o (c .match .keys2) tt) in
-    decided-here (s .args .a) (s .args .b) _ _ (s .good .0 .1 .1 .0 .1 .0 .1) (s .good .1 .0 .1 .1 .0 .1 .0 .1) (c .before .before .before .before .if1 .left) (s .pre .1 .0) o stop (order-here t (c .before))
+    decided-here (s .args .a) (s .args .b) _ _ (s .good .0 .1 .1 .0 .1 .0 .1) (s .good .1 .0 .1 .1 .0 .1 .0 .1)
+    (c .before .before .before .before .if1 .left) (s .pre .1 .0) o stop (order-here t (c .before))
 
 pub +compare-from-spec : {M : Type 1} → statement M
 +compare-from-spec = close μ-compare-from λ t. compare-from-lts.spec (

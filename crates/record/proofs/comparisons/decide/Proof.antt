@@ -36,7 +36,8 @@ returns c = decide-bad (c .before .before .args .a) (c .before .before .args .b)
 returns-2 : tie.Need-returns-2
 returns-2 c =
     let e = c .before .before in
-    decide-differ (e .before .before .args .a) (e .before .before .args .b) (e .before .bad-counts .ensures) (e .if1 .left) (c .before .shapes-differ .ensures) (c .if2 .taken)
+    decide-differ (e .before .before .args .a) (e .before .before .args .b) (e .before .bad-counts .ensures) (e .if1 .left)
+    (c .before .shapes-differ .ensures) (c .if2 .taken)
 
 returns-3 : tie.Need-returns-3
 returns-3 c =

@@ -9,12 +9,15 @@ use Rattle.record.proofs.comparisons.order_of.Tie as tie
 returns : tie.Need-returns
 returns c =
     let s = c .before .before .before .before in
-    given-same (sym (ap comparedOutcome (c .before .o .given .1)) ∙ c .before .before .before .compare .ensures ∙ one-kind-ordered (s .args .v) (s .args .w) (s .pre))
+    given-same (sym (ap comparedOutcome (c .before .o .given .1))
+    ∙ c .before .before .before .compare .ensures
+    ∙ one-kind-ordered (s .args .v) (s .args .w) (s .pre))
 
 returns-2 : tie.Need-returns-2
 returns-2 c =
     let s = c .before .before .before in
-    absurd (refused-given _ _ (sym (ap comparedOutcome (c .enum-told .given .1)) ∙ c .before .before .compare .ensures ∙ one-kind-ordered (s .args .v) (s .args .w) (s .pre)))
+    absurd (refused-given _ _
+    (sym (ap comparedOutcome (c .enum-told .given .1)) ∙ c .before .before .compare .ensures ∙ one-kind-ordered (s .args .v) (s .args .w) (s .pre)))
 
 pub order-of-spec : {M : Type 1} → statement M
 order-of-spec = tie.close (tie.spec (λ c κs. search needs) (λ c. search needs) (λ c. search needs) returns returns-2)

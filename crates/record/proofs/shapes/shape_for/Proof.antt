@@ -26,8 +26,11 @@ element-set-from-s c = search needs
 loop-again : tie.Need-loop-again Inv-loop μ-loop
 loop-again c =
     let l = c .before .before in
-    let s = l .before .before .before in
-    (omega arith, rw (l .before .loop .inv .1) (one-more (s .args .r) _ (s .good .0 .1 .1 .0 .1 .0 .1) (omega arith) (c .kind-of .ensures ∙ ap kindOf (c .before .value-at .ensures))))
+    let s = l .before .before .before in (
+      omega arith,
+      rw (l .before .loop .inv .1)
+          (one-more (s .args .r) _ (s .good .0 .1 .1 .0 .1 .0 .1) (omega arith) (c .kind-of .ensures ∙ ap kindOf (c .before .value-at .ensures))),
+    )
 
 returns : tie.Need-returns Inv-loop μ-loop
 returns c =

@@ -27,13 +27,19 @@ returns-2 : tie.Need-returns-2 Inv-loop μ-loop
 returns-2 c =
     let l = c .before .before .before in
     let s = l .before .before .before .before in
-    differ-here (s .args .a) (s .args .b) _ _ (l .before .loop .inv .1) (s .good .0 .1 .1 .0 .1 .0 .1) (s .good .1 .0 .1 .1 .0 .1 .0 .1) (l .loop-test .taken) (s .pre .0) (c .before .before .kind-number-at .ensures) (c .before .kind-number-at2 .ensures) (c .if2 .taken)
+    differ-here (s .args .a) (s .args .b) _ _ (l .before .loop .inv .1) (s .good .0 .1 .1 .0 .1 .0 .1)
+    (s .good .1 .0 .1 .1 .0 .1 .0 .1) (l .loop-test .taken) (s .pre .0) (c .before .before .kind-number-at .ensures)
+    (c .before .kind-number-at2 .ensures) (c .if2 .taken)
 
 loop-again : tie.Need-loop-again Inv-loop μ-loop
 loop-again c =
     let l = c .before .before .before in
-    let s = l .before .before .before .before in
-    (omega arith, alike-here (s .args .a) (s .args .b) _ _ (l .before .loop .inv .1) (s .good .0 .1 .1 .0 .1 .0 .1) (s .good .1 .0 .1 .1 .0 .1 .0 .1) (l .loop-test .taken) (s .pre .0) (c .before .before .kind-number-at .ensures) (c .before .kind-number-at2 .ensures) (c .if2 .left))
+    let s = l .before .before .before .before in (
+      omega arith,
+      alike-here (s .args .a) (s .args .b) _ _ (l .before .loop .inv .1) (s .good .0 .1 .1 .0 .1 .0 .1)
+          (s .good .1 .0 .1 .1 .0 .1 .0 .1) (l .loop-test .taken) (s .pre .0) (c .before .before .kind-number-at .ensures)
+          (c .before .kind-number-at2 .ensures) (c .if2 .left),
+    )
 
 returns-3 : tie.Need-returns-3 Inv-loop μ-loop
 returns-3 c =

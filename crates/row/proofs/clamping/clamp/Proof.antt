@@ -17,7 +17,8 @@ returns c =
     let looked = c .before in
     let bounds = looked .before .before in
     let start = bounds .before in
-    clamp-row-refused (start .before .args .range) (lower-fits (start .before)) (upper-fits (start .before)) (bounds .if1 .taken) (start .before .args .row .now) (λ i h. start .slice-known .given i)
+    clamp-row-refused (start .before .args .range) (lower-fits (start .before)) (upper-fits (start .before)) (bounds .if1 .taken)
+    (start .before .args .row .now) (λ i h. start .slice-known .given i)
     (looked .first-nan .result) (looked .first-nan .ensures) (c .if2 .taken)
 
 returns-2 : tie.Need-returns-2
@@ -27,11 +28,13 @@ returns-2 c =
     let looked = passed .before in
     let bounds = looked .before .before in
     let start = bounds .before in
-    clamp-row-done (start .before .args .range) (lower-fits (start .before)) (upper-fits (start .before)) (bounds .if1 .taken) (start .before .args .row .now) (λ i h. start .slice-known .given i)
+    clamp-row-done (start .before .args .range) (lower-fits (start .before)) (upper-fits (start .before)) (bounds .if1 .taken)
+    (start .before .args .row .now) (λ i h. start .slice-known .given i)
     (looked .first-nan .result) (looked .first-nan .ensures) _ (passed .if2 .left) (clamped .clamp-all .ensures)
 
 returns-3 : tie.Need-returns-3
-returns-3 c = clamp-row-bounds (c .before .before .args .range) (lower-fits (c .before .before)) (upper-fits (c .before .before)) (c .before .before .args .row .now) (c .if1 .left)
+returns-3 c = clamp-row-bounds (c .before .before .args .range) (lower-fits (c .before .before)) (upper-fits (c .before .before))
+    (c .before .before .args .row .now) (c .if1 .left)
 
 pub clamp-spec : {M : Type 1} → statement M
 clamp-spec =

@@ -22,7 +22,9 @@ loop-again c =
     let a = b .before .before .args in
     let h : b .loop .i < length (a .row .now) = omega arith in
     write-step (clampedFloat (a .lower) (a .upper)) (a .row .now) (a .row .now) (b .loop .row) (b .loop .i) nan _ h refl (b .loop .inv)
-    (c .clamp-sample .ensures ∙ ap (clampedFloat (a .lower) (a .upper)) (in-place (clampedFloat (a .lower) (a .upper)) (a .row .now) (b .loop .row) (b .loop .i) nan h (b .loop .inv)))
+    (c .clamp-sample .ensures
+    ∙ ap (clampedFloat (a .lower) (a .upper))
+    (in-place (clampedFloat (a .lower) (a .upper)) (a .row .now) (b .loop .row) (b .loop .i) nan h (b .loop .inv)))
 
 returns : tie.Need-returns Inv-loop μ-loop
 returns c =

@@ -24,8 +24,11 @@ loop-holds c = (omega arith, none-yet isNotSelf (c .args .part .now))
 loop-again : tie.Need-loop-again Inv-loop μ-loop
 loop-again c =
     let at = c .before .before in
-    let s = at .before .args .part .now in
-    (omega arith, ap (λ (b : Bool). b || isNotSelf (getD s (at .loop .i) nan)) (at .loop .inv .1) ∙ any-step isNotSelf s (at .loop .i) nan (c .before .loop-test .taken))
+    let s = at .before .args .part .now in (
+      omega arith,
+      ap (λ (b : Bool). b || isNotSelf (getD s (at .loop .i) nan)) (at .loop .inv .1)
+          ∙ any-step isNotSelf s (at .loop .i) nan (c .before .loop-test .taken),
+    )
 
 returns : tie.Need-returns Inv-loop μ-loop
 returns c = c .before .loop .inv .1 ∙ any-end isNotSelf _ _ (c .loop-test .left)

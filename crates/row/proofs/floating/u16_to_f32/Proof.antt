@@ -17,7 +17,8 @@ returns-2 c =
     let same = wrote .before .before in
     let known = same .before .before in
     let a = known .before .args in
-    always-done u16ToF32 (a .src .now) (a .dst .now) asF32 (λ n. n < 2 ^ 16) 0 u16-float (same .if1 .left) (λ i h. known .shared-slice-known .given i .fits) _ (wrote .float-all .ensures)
+    always-done u16ToF32 (a .src .now) (a .dst .now) asF32 (λ n. n < 2 ^ 16) 0 u16-float (same .if1 .left)
+    (λ i h. known .shared-slice-known .given i .fits) _ (wrote .float-all .ensures)
 
 pub u16-to-f32-spec : {M : Type 1} → statement M
 u16-to-f32-spec = tie.close (tie.spec returns (λ c κs. search needs) (λ c. search needs) returns-2)

@@ -24,7 +24,8 @@ loop-again c =
     let i = b .loop .i in
     let fit : i + 256 ≤ length s = omega arith in
     let m : (i + 256) - i ≡ 256 = omega arith in
-    let none : any isWide (take 256 (drop i s)) ≡ false = ap (λ (k : ℕ). any isWide (take k (drop i s))) (sym m) ∙ sym (c .before .has-wide .ensures) ∙ c .if1 .left in
+    let none : any isWide (take 256 (drop i s)) ≡ false =
+    ap (λ (k : ℕ). any isWide (take k (drop i s))) (sym m) ∙ sym (c .before .has-wide .ensures) ∙ c .if1 .left in
     (omega arith, b .loop .inv .1, reach-block isWide 256 s i fit none (b .loop .inv .2))
 
 pub first-wide-spec : {M : Type 1} → statement M

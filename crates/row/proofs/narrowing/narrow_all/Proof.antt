@@ -21,7 +21,8 @@ cast-dst : tie.Need-cast-dst Inv-loop μ-loop
 cast-dst c =
     let b = c .before .before in
     let a = b .before in
-    let h : getD (a .args .src .now) (b .loop .i) 0 ≤ 255 = ltb-false _ _ (first-none isWide (a .args .src .now) (b .loop .i) 0 (a .pre .1) (c .before .loop-test .taken)) in
+    let h : getD (a .args .src .now) (b .loop .i) 0 ≤ 255 =
+    ltb-false _ _ (first-none isWide (a .args .src .now) (b .loop .i) 0 (a .pre .1) (c .before .loop-test .taken)) in
     omega arith
 
 loop-again : tie.Need-loop-again Inv-loop μ-loop

@@ -22,8 +22,11 @@ narrow-all-requires : tie.Need-narrow-all-requires
 narrow-all-requires c κs =
     let passed = c .before in
     let looked = passed .before in
-    let same = looked .before in
-    (same .if1 .left, first-all isWide (same .before .before .before .args .src .now) (looked .first-wide .result) (looked .first-wide .ensures) (passed .if2 .left))
+    let same = looked .before in (
+      same .if1 .left,
+      first-all isWide (same .before .before .before .args .src .now) (looked .first-wide .result)
+          (looked .first-wide .ensures) (passed .if2 .left),
+    )
 
 returns-3 : tie.Need-returns-3
 returns-3 c =
@@ -32,7 +35,8 @@ returns-3 c =
     let looked = passed .before in
     let same = looked .before in
     let a = same .before .before .before .args in
-    narrow-done (a .src .now) (a .dst .now) (same .if1 .left) (looked .first-wide .result) (looked .first-wide .ensures) _ (passed .if2 .left) (wrote .narrow-all .ensures)
+    narrow-done (a .src .now) (a .dst .now) (same .if1 .left) (looked .first-wide .result) (looked .first-wide .ensures) _
+    (passed .if2 .left) (wrote .narrow-all .ensures)
 
 pub u16-to-u8-spec : {M : Type 1} → statement M
 u16-to-u8-spec =

@@ -26,14 +26,18 @@ returns-2 c =
     let same = looked .before in
     let known = same .before .before in
     let a = known .before .args in
-    whole-row-refused (a .src .now) (a .dst .now) (same .if1 .left) (λ i h. known .shared-slice-known .given i) (looked .first-misfit .result) (looked .first-misfit .ensures) (found .if2 .taken) _ (c .refusal-of .ensures)
+    whole-row-refused (a .src .now) (a .dst .now) (same .if1 .left) (λ i h. known .shared-slice-known .given i)
+    (looked .first-misfit .result) (looked .first-misfit .ensures) (found .if2 .taken) _ (c .refusal-of .ensures)
 
 whole-all-requires : tie.Need-whole-all-requires
 whole-all-requires c κs =
     let passed = c .before in
     let looked = passed .before in
-    let same = looked .before in
-    (same .if1 .left, first-all isMisfit (same .before .before .before .args .src .now) (looked .first-misfit .result) (looked .first-misfit .ensures) (passed .if2 .left))
+    let same = looked .before in (
+      same .if1 .left,
+      first-all isMisfit (same .before .before .before .args .src .now) (looked .first-misfit .result)
+          (looked .first-misfit .ensures) (passed .if2 .left),
+    )
 
 returns-3 : tie.Need-returns-3
 returns-3 c =
@@ -43,7 +47,8 @@ returns-3 c =
     let same = looked .before in
     let known = same .before .before in
     let a = known .before .args in
-    whole-row-done (a .src .now) (a .dst .now) (same .if1 .left) (λ i h. known .shared-slice-known .given i) (looked .first-misfit .result) (looked .first-misfit .ensures) _ (passed .if2 .left) (wrote .whole-all .ensures)
+    whole-row-done (a .src .now) (a .dst .now) (same .if1 .left) (λ i h. known .shared-slice-known .given i)
+    (looked .first-misfit .result) (looked .first-misfit .ensures) _ (passed .if2 .left) (wrote .whole-all .ensures)
 
 pub f32-to-u16-spec : {M : Type 1} → statement M
 f32-to-u16-spec =

@@ -23,8 +23,11 @@ loop-holds c = (omega arith, none-yet isMisfit (c .before .args .part .now))
 loop-again : tie.Need-loop-again Inv-loop μ-loop
 loop-again c =
     let turn = c .before .before in
-    let at = turn .before in
-    (omega arith, cc (at .loop .inv .1, c .is-misfit .ensures) ∙ any-step isMisfit (at .before .before .args .part .now) (at .loop .i) nan (turn .loop-test .taken))
+    let at = turn .before in (
+      omega arith,
+      cc (at .loop .inv .1, c .is-misfit .ensures)
+          ∙ any-step isMisfit (at .before .before .args .part .now) (at .loop .i) nan (turn .loop-test .taken),
+    )
 
 returns : tie.Need-returns Inv-loop μ-loop
 returns c = c .before .loop .inv .1 ∙ any-end isMisfit _ _ (c .loop-test .left)

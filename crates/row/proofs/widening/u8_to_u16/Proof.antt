@@ -16,7 +16,8 @@ returns-2 c =
     let same = wrote .before .before in
     let known = same .before .before in
     let a = known .before .args in
-    always-done u8ToU16 (a .src .now) (a .dst .now) (λ n. n) (λ n. n < 2 ^ 8) 0 u8-wider (same .if1 .left) (λ i h. known .shared-slice-known .given i .fits) _ (wrote .widen-all .ensures)
+    always-done u8ToU16 (a .src .now) (a .dst .now) (λ n. n) (λ n. n < 2 ^ 8) 0 u8-wider (same .if1 .left)
+    (λ i h. known .shared-slice-known .given i .fits) _ (wrote .widen-all .ensures)
 
 pub u8-to-u16-spec : {M : Type 1} → statement M
 u8-to-u16-spec = tie.close (tie.spec returns (λ c κs. search needs) (λ c. search needs) returns-2)

@@ -16,16 +16,19 @@ use Rattle.sample.proofs.samples.sample_at.Tie as tie
 
 -- what was asked is whether there is such a sample
 asked : (c : tie.After-is-inside) → c .is-inside .result ≡ (let a = c .before .before .before .args in ltb (a .i) (countOf (a .k) (a .src .now)))
-asked c = let a = c .before .before .before .args in c .is-inside .ensures ∙ ap (λ (w : ℕ). ltb (a .i) (length (a .src .now) / w)) (c .before .bytes-of .ensures .0)
+asked c = let a = c .before .before .before .args in
+    c .is-inside .ensures ∙ ap (λ (w : ℕ). ltb (a .i) (length (a .src .now) / w)) (c .before .bytes-of .ensures .0)
 
 -- there is, so that its last byte is inside
 below : (c : tie.After-is-inside) → c .is-inside .result ≡ true → (let a = c .before .before .before .args in a .i < countOf (a .k) (a .src .now))
 below c h = ltb-true _ _ (sym (asked c) ∙ h)
 
-inside : (c : tie.Then1) → (let a = c .before .before .before .before .args in let w = c .before .before .bytes-of .result in a .i * w + w ≤ length (a .src .now))
+inside : (c : tie.Then1)
+    → (let a = c .before .before .before .before .args in let w = c .before .before .bytes-of .result in a .i * w + w ≤ length (a .src .now))
 inside c =
     let a = c .before .before .before .before .args in
-    subst (λ (w : ℕ). a .i * w + w ≤ length (a .src .now)) (sym (c .before .before .bytes-of .ensures .0)) (at-inside (a .k) (a .src .now) (a .i) (below (c .before) (c .if1 .taken)))
+    subst (λ (w : ℕ). a .i * w + w ≤ length (a .src .now)) (sym (c .before .before .bytes-of .ensures .0))
+    (at-inside (a .k) (a .src .now) (a .i) (below (c .before) (c .if1 .taken)))
 
 mul-load : tie.Need-mul-load
 mul-load c = record { fits = omega (arith, inside c) }
@@ -39,7 +42,8 @@ returns c =
     let then = loaded .before in
     let a = then .before .before .before .before .args in
     c .value-of .ensures
-    ∙ ap (valueOf (a .k)) (loaded .load .ensures ∙ ap (λ (w : ℕ). fromLittleEndian (take w (drop (a .i * w) (a .src .now)))) (then .before .before .bytes-of .ensures .0))
+    ∙ ap (valueOf (a .k))
+    (loaded .load .ensures ∙ ap (λ (w : ℕ). fromLittleEndian (take w (drop (a .i * w) (a .src .now)))) (then .before .before .bytes-of .ensures .0))
     ∙ at-here (a .k) (a .src .now) (a .i) (below (then .before) (then .if1 .taken))
 
 returns-2 : tie.Need-returns-2

@@ -11,7 +11,8 @@ use Rattle.silamogo.specs.Answer.{sampledOf}
 use Rattle.silamogo.proofs.answers.sampled.Statement.{statement}
 use Rattle.silamogo.proofs.answers.sampled.Tie as tie
 
-made : (v : Value) {k b : ℕ} → k ≡ kindNumber (kindOf v) → b ≡ bitsOf v → _≡_ {A = Sampled} (record { number = 0; place = 0; kind = k; bits = b }) (sampledOf (gives v))
+made : (v : Value) {k b : ℕ} → k ≡ kindNumber (kindOf v) → b ≡ bitsOf v
+    → _≡_ {A = Sampled} (record { number = 0; place = 0; kind = k; bits = b }) (sampledOf (gives v))
 made v p q = rw (p, q)
 
 returns : tie.Need-returns

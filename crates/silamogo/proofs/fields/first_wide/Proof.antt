@@ -18,12 +18,14 @@ loop-holds c = fitting-start _ _
 returns : tie.Need-returns Inv-loop μ-loop
 returns c =
     let turn = c .before .before .before .before in
-    fitting-stop _ _ (turn .before .before .before .before .pre) (turn .before .loop .at) (turn .before .loop .inv) (turn .loop-test .taken) (c .before .too-wide .ensures) (c .if1 .taken)
+    fitting-stop _ _ (turn .before .before .before .before .pre) (turn .before .loop .at) (turn .before .loop .inv)
+    (turn .loop-test .taken) (c .before .too-wide .ensures) (c .if1 .taken)
 
 loop-again : tie.Need-loop-again Inv-loop μ-loop
 loop-again c =
     let turn = c .before .before .before .before in
-    fitting-step _ _ (turn .before .before .before .before .pre) (turn .before .loop .at) (turn .before .loop .inv) (turn .loop-test .taken) (c .before .too-wide .ensures) (c .if1 .left)
+    fitting-step _ _ (turn .before .before .before .before .pre) (turn .before .loop .at) (turn .before .loop .inv)
+    (turn .loop-test .taken) (c .before .too-wide .ensures) (c .if1 .left)
 
 returns-2 : tie.Need-returns-2 Inv-loop μ-loop
 returns-2 c = fitting-end _ _ (c .before .before .before .before .pre) (c .before .loop .at) (c .before .loop .inv) (c .loop-test .left)

@@ -23,7 +23,8 @@ loop-again c =
     let loop = turn .before in
     let start = loop .before .before in
     let full = twelve (start .args .t1) (start .good .0 .1 .1 .0 .1 .0 .1) in
-    written-more (start .args .t1) (loop .loop .bits) (loop .loop .at) (loop .loop .inv) (turn .loop-test .taken) (omega (arith, start .pre .0)) (c .bits-of .ensures)
+    written-more (start .args .t1) (loop .loop .bits) (loop .loop .at) (loop .loop .inv) (turn .loop-test .taken)
+    (omega (arith, start .pre .0)) (c .bits-of .ensures)
 
 returns : tie.Need-returns Inv-loop μ-loop
 returns c =

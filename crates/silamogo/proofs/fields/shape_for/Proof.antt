@@ -18,10 +18,12 @@ loop-again : tie.Need-loop-again Inv-loop μ-loop
 loop-again c =
     let turn = c .before .before in
     let loop = turn .before in
-    shape-more (loop .before .before .before .before .args .kinds .now) _ (loop .loop .made) (loop .loop .at) (loop .loop .inv) (turn .loop-test .taken) (c .kind-for .ensures)
+    shape-more (loop .before .before .before .before .args .kinds .now) _ (loop .loop .made) (loop .loop .at) (loop .loop .inv)
+    (turn .loop-test .taken) (c .kind-for .ensures)
 
 returns : tie.Need-returns Inv-loop μ-loop
-returns c = shape-end (c .before .before .before .before .before .args .kinds .now) _ (c .before .loop .made) (c .before .loop .at) (c .before .loop .inv) (c .loop-test .left)
+returns c = shape-end (c .before .before .before .before .before .args .kinds .now) _ (c .before .loop .made)
+    (c .before .loop .at) (c .before .loop .inv) (c .loop-test .left)
 
 pub shape-for-spec : {M : Type 1} → statement M
 shape-for-spec =

@@ -24,7 +24,8 @@ put-read-requires c κs =
     let even = read .before .before in
     let asked = even .before .before in
     let args = asked .before .before .before .before .args in
-    read-room (args .kinds .now) (args .key .now) (args .bits .now) (asked .any-unnamed .ensures) (even .before .if1 .left) (even .if2 .left) (read .before .shape-for .ensures) (read .read .ensures)
+    read-room (args .kinds .now) (args .key .now) (args .bits .now) (asked .any-unnamed .ensures) (even .before .if1 .left)
+    (even .if2 .left) (read .before .shape-for .ensures) (read .read .ensures)
 
 returns-3 : tie.Need-returns-3
 returns-3 c =
@@ -33,7 +34,8 @@ returns-3 c =
     let even = read .before .before in
     let asked = even .before .before in
     let args = asked .before .before .before .before .args in
-    read-given (args .kinds .now) (args .key .now) (args .bits .now) (asked .any-unnamed .ensures) (even .before .if1 .left) (even .if2 .left) (read .before .shape-for .ensures) (read .read .ensures)
+    read-given (args .kinds .now) (args .key .now) (args .bits .now) (asked .any-unnamed .ensures) (even .before .if1 .left)
+    (even .if2 .left) (read .before .shape-for .ensures) (read .read .ensures)
     _ _ (put .put-read .ensures)
 
 pub silamogo-key-read-spec : {M : Type 1} → statement M

@@ -9,7 +9,8 @@ returns : tie.Need-returns
 returns c =
     let wide = c .before .before in
     let named = wide .before in
-    c .rule-for .ensures ∙ rule-same (two-unnamed _ _ (named .before .unnamed .ensures) (named .unnamed2 .ensures)) (two-wide _ _ (wide .too-wide .ensures) (c .before .too-wide2 .ensures))
+    c .rule-for .ensures ∙ rule-same (two-unnamed _ _ (named .before .unnamed .ensures) (named .unnamed2 .ensures))
+    (two-wide _ _ (wide .too-wide .ensures) (c .before .too-wide2 .ensures))
 
 pub rule-of-two-spec : {M : Type 1} → statement M
 rule-of-two-spec =

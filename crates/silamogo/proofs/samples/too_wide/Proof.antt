@@ -14,7 +14,9 @@ returns : tie.Need-returns
 unfolding tooWide
 returns c =
     let s = c .before .before .before .args .s in
-    ap (λ (h : ℕ). ltb h (s .bits)) (c .before .highest .ensures ∙ ap (λ (k : Kind). 2 ^ widthOf k - 1) (c .before .before .kind-for .ensures)) ∙ above-highest (widthOf (kindFor (s .kind))) (s .bits)
+    ap (λ (h : ℕ). ltb h (s .bits))
+    (c .before .highest .ensures ∙ ap (λ (k : Kind). 2 ^ widthOf k - 1) (c .before .before .kind-for .ensures))
+    ∙ above-highest (widthOf (kindFor (s .kind))) (s .bits)
 
 pub too-wide-spec : {M : Type 1} → statement M
 too-wide-spec = tie.close (tie.spec (λ c κs. search needs) (λ c κs. search needs) returns)

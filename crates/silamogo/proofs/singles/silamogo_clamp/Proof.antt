@@ -21,7 +21,9 @@ returns-2 c =
     let tested = past .before in
     let args = tested .before .args in
     c .sampled-by .ensures
-    ∙ ap sampledOf (answered .clamp .ensures ∙ clamp-past (args .v) (args .lower) (args .upper) (tested .rule-of-three .ensures) (past .if1 .left) (lower .before .value-for .ensures) (lower .value-for2 .ensures) (upper .value-for3 .ensures))
+    ∙ ap sampledOf (answered .clamp .ensures
+    ∙ clamp-past (args .v) (args .lower) (args .upper) (tested .rule-of-three .ensures) (past .if1 .left)
+    (lower .before .value-for .ensures) (lower .value-for2 .ensures) (upper .value-for3 .ensures))
 
 pub silamogo-clamp-spec : {M : Type 1} → statement M
 silamogo-clamp-spec =

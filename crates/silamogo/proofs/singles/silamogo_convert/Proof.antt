@@ -20,7 +20,9 @@ returns-2 c =
     let tested = past .before in
     let args = tested .before .args in
     c .sampled-into .ensures
-    ∙ ap sampledOf (answered .convert .ensures ∙ convert-past (args .v) (args .to) (tested .rule-of-target .ensures) (past .if1 .left) (target .before .value-for .ensures) (target .kind-for .ensures))
+    ∙ ap sampledOf (answered .convert .ensures
+    ∙ convert-past (args .v) (args .to) (tested .rule-of-target .ensures) (past .if1 .left)
+    (target .before .value-for .ensures) (target .kind-for .ensures))
 
 pub silamogo-convert-spec : {M : Type 1} → statement M
 silamogo-convert-spec =

@@ -12,7 +12,8 @@ returns : tie.Need-returns
 unfolding maxOf
 returns c =
     let tested = c .before .before in
-    c .sample-refused .ensures ∙ ap sampledOf (two-stop (tested .before .args .a) (tested .before .args .b) (tested .rule-of-two .ensures) library.maxOf (c .before .if1 .taken))
+    c .sample-refused .ensures
+    ∙ ap sampledOf (two-stop (tested .before .args .a) (tested .before .args .b) (tested .rule-of-two .ensures) library.maxOf (c .before .if1 .taken))
 
 returns-2 : tie.Need-returns-2
 unfolding maxOf
@@ -22,7 +23,9 @@ returns-2 c =
     let past = value .before .before in
     let tested = past .before in
     c .sampled-by .ensures
-    ∙ ap sampledOf (answered .max .ensures ∙ two-past (tested .before .args .a) (tested .before .args .b) (tested .rule-of-two .ensures) library.maxOf (past .if1 .left) (value .before .value-for .ensures) (value .value-for2 .ensures))
+    ∙ ap sampledOf (answered .max .ensures
+    ∙ two-past (tested .before .args .a) (tested .before .args .b) (tested .rule-of-two .ensures) library.maxOf
+    (past .if1 .left) (value .before .value-for .ensures) (value .value-for2 .ensures))
 
 pub silamogo-max-spec : {M : Type 1} → statement M
 silamogo-max-spec =

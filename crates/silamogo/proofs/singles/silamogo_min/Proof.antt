@@ -12,7 +12,8 @@ returns : tie.Need-returns
 unfolding minOf
 returns c =
     let tested = c .before .before in
-    c .sample-refused .ensures ∙ ap sampledOf (two-stop (tested .before .args .a) (tested .before .args .b) (tested .rule-of-two .ensures) library.minOf (c .before .if1 .taken))
+    c .sample-refused .ensures
+    ∙ ap sampledOf (two-stop (tested .before .args .a) (tested .before .args .b) (tested .rule-of-two .ensures) library.minOf (c .before .if1 .taken))
 
 returns-2 : tie.Need-returns-2
 unfolding minOf
@@ -22,7 +23,9 @@ returns-2 c =
     let past = value .before .before in
     let tested = past .before in
     c .sampled-by .ensures
-    ∙ ap sampledOf (answered .min .ensures ∙ two-past (tested .before .args .a) (tested .before .args .b) (tested .rule-of-two .ensures) library.minOf (past .if1 .left) (value .before .value-for .ensures) (value .value-for2 .ensures))
+    ∙ ap sampledOf (answered .min .ensures
+    ∙ two-past (tested .before .args .a) (tested .before .args .b) (tested .rule-of-two .ensures) library.minOf
+    (past .if1 .left) (value .before .value-for .ensures) (value .value-for2 .ensures))
 
 pub silamogo-min-spec : {M : Type 1} → statement M
 silamogo-min-spec =

@@ -25,7 +25,8 @@ abbrev head : tie.After-known-told Inv-loop μ-loop → tie.At-loop Inv-loop μ-
 head c = c .before .before .before .before .before .before
 
 -- what this turn read is the digit d
-digit-read : (c : tie.After-known-told Inv-loop μ-loop) → digitIn (head c .before .before .args .base) (getD (head c .before .before .args .s .now) (head c .loop .i) 0) ≡ digit.Is (c .before .d .given .0 .0)
+digit-read : (c : tie.After-known-told Inv-loop μ-loop)
+    → digitIn (head c .before .before .args .base) (getD (head c .before .before .args .s .now) (head c .loop .i) 0) ≡ digit.Is (c .before .d .given .0 .0)
 digit-read c = sym (c .before .before .before .digit-in .ensures) ∙ c .before .d .given .1
 
 small : (c : tie.After-known-told Inv-loop μ-loop) → c .before .d .given .0 .0 < head c .before .before .args .base

@@ -22,8 +22,10 @@ shared-slice-read-if1 : tie.Need-shared-slice-read-if1 Inv-loop μ-loop
 shared-slice-read-if1 c = search needs
 
 returns : tie.Need-returns Inv-loop μ-loop
-returns c =
-    (place-here _ _ _ (c .before .before .before .loop .inv .1) (c .before .before .loop-test .taken) (c .if1 .taken), (search needs, sym (length-take-le _ _ (search needs))))
+returns c = (
+  place-here _ _ _ (c .before .before .before .loop .inv .1) (c .before .before .loop-test .taken) (c .if1 .taken),
+  (search needs, sym (length-take-le _ _ (search needs))),
+)
 
 add-i : tie.Need-add-i Inv-loop μ-loop
 add-i c = search needs

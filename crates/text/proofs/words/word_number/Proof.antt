@@ -39,7 +39,8 @@ add-n c = search needs
 returns-2 : tie.Need-returns-2 Inv-loop μ-loop
 returns-2 c =
     let found = c .before .before .before .before in
-    among-missing _ _ _ _ _ (found .before .loop .inv .0) (found .place-of .ensures .0) (c .before .before .same .ensures) (c .if2 .taken) (c .before .if1 .left)
+    among-missing _ _ _ _ _ (found .before .loop .inv .0) (found .place-of .ensures .0) (c .before .before .same .ensures)
+    (c .if2 .taken) (c .before .if1 .left)
 
 add-rest : tie.Need-add-rest Inv-loop μ-loop
 add-rest c = search needs
@@ -59,7 +60,8 @@ loop-less c = search needs
 loop-again : tie.Need-loop-again Inv-loop μ-loop
 loop-again c =
     let found = c .before .before .before .before .before in
-    let next = among-next _ _ _ _ _ (found .before .loop .inv .0) (found .place-of .ensures .0) (c .before .before .before .same .ensures) (found .place-of .ensures .1 .0) (c .before .if2 .left) (c .before .before .if1 .left) in
+    let next = among-next _ _ _ _ _ (found .before .loop .inv .0) (found .place-of .ensures .0)
+    (c .before .before .before .same .ensures) (found .place-of .ensures .1 .0) (c .before .if2 .left) (c .before .before .if1 .left) in
     (next, search needs)
 
 pub word-number-spec : {M : Type 1} → statement M

@@ -20,13 +20,15 @@ cast-twos-2 : tie.Need-cast-twos-2
 cast-twos-2 c = let f : SFits w16 (c .before .v6 .given .0 .0) = search needs in recast w64 f (wider w64 (lit≤ tt) f)
 
 twos-requires-2 : tie.Need-twos-requires-2
-twos-requires-2 c κs = let f : SFits w16 (c .before .v6 .given .0 .0) = search needs in rw (recast-back w64 f (wider w64 (lit≤ tt) f)) (mag-below 0xffff f (lit≤ tt))
+twos-requires-2 c κs = let f : SFits w16 (c .before .v6 .given .0 .0) = search needs in
+    rw (recast-back w64 f (wider w64 (lit≤ tt) f)) (mag-below 0xffff f (lit≤ tt))
 
 cast-twos-3 : tie.Need-cast-twos-3
 cast-twos-3 c = let f : SFits w32 (c .before .v7 .given .0 .0) = search needs in recast w64 f (wider w64 (lit≤ tt) f)
 
 twos-requires-3 : tie.Need-twos-requires-3
-twos-requires-3 c κs = let f : SFits w32 (c .before .v7 .given .0 .0) = search needs in rw (recast-back w64 f (wider w64 (lit≤ tt) f)) (mag-below 0xffff_ffff f (lit≤ tt))
+twos-requires-3 c κs = let f : SFits w32 (c .before .v7 .given .0 .0) = search needs in
+    rw (recast-back w64 f (wider w64 (lit≤ tt) f)) (mag-below 0xffff_ffff f (lit≤ tt))
 
 twos-requires-4 : tie.Need-twos-requires-4
 twos-requires-4 c κs = let f : SFits w64 (c .before .v8 .given .0 .0) = search needs in rw (toZ-ofZ w64 _ f) (mag-below 0xffff_ffff_ffff_ffff f (lit≤ tt))

@@ -24,7 +24,8 @@ returns : tie.Need-returns
 returns c = sym (valued (c .before .before) (c .enum-told .given .1))
 
 -- with the kind that was looked for, too
-kinded : (c : tie.After-kind-named) {k : KindFound} → c .kind-named .result ≡ k → valueAndKindIn (whole-text (c .before .before .before .before .before)) ≡ beside (one.Is (c .before .before .before .v .given .0 .0)) k
+kinded : (c : tie.After-kind-named) {k : KindFound} → c .kind-named .result ≡ k
+    → valueAndKindIn (whole-text (c .before .before .before .before .before)) ≡ beside (one.Is (c .before .before .before .v .given .0 .0)) k
 kinded c e =
     valued (c .before .before .before .before .before) (c .before .before .before .v .given .1)
     ∙ ap (beside (one.Is _)) (ap kindNamed (sym (c .before .after .ensures)) ∙ sym (c .kind-named .ensures) ∙ e)

@@ -22,7 +22,8 @@ returns : tie.Need-returns
 returns c = sym (first (c .before .before) (c .enum-told .given .1))
 
 -- with both values
-second : (c : tie.After-value-in2) {b : OneValue} → c .value-in2 .result ≡ b → valuesIn (whole-text (c .before .before .before .before .before)) ≡ both (one.Is (c .before .before .before .a .given .0 .0)) b
+second : (c : tie.After-value-in2) {b : OneValue} → c .value-in2 .result ≡ b
+    → valuesIn (whole-text (c .before .before .before .before .before)) ≡ both (one.Is (c .before .before .before .a .given .0 .0)) b
 second c e =
     first (c .before .before .before .before .before) (c .before .before .before .a .given .1)
     ∙ ap (both (one.Is _)) (ap valueIn (sym (c .before .after .ensures)) ∙ sym (c .value-in2 .ensures) ∙ e)
