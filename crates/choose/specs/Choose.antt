@@ -37,6 +37,7 @@ sampleOrder x y = patterns.compareOf 23 8 (toBits binary32 x) (toBits binary32 y
 
 -- ---- the choice
 
+-- min and max: 7, 8
 abbrev pub choiceRules : Value → Value → List Rule
 choiceRules a b = rule 7 0 (kindsDiffer a b) ∷ unordered 0 (valueOrder a b) ∷ []
 
@@ -54,6 +55,7 @@ maxOf a b = chain (choiceRules a b) (gives (otherIfGreater b a (valueOrder a b))
 abbrev pub badBounds : Order → Rule
 badBounds bounds = rule 6 0 (not (isLessOrEqual bounds))
 
+-- 7, then 6 for the bounds, then 8: the bounds are in order by then, so that a value that is Unordered with the lower one is a NaN
 abbrev pub clampRules : Value → Value → Value → List Rule
 clampRules v lower upper =
     rule 7 0 (kindsDiffer v lower || kindsDiffer v upper)
@@ -74,12 +76,14 @@ clampOf v lower upper = chain (clampRules v lower upper) (gives (between (valueO
 abbrev pub defaultRange : Range
 defaultRange = record { lower = ofBits binary32 0x0000_0000; upper = ofBits binary32 0x3f80_0000 }
 
+-- making a range: 6
 abbrev pub boundsRules : Float → Float → List Rule
 boundsRules lower upper = badBounds (sampleOrder lower upper) ∷ []
 
 unfoldable pub rangeOf : Float → Float → Outcome Range
 rangeOf lower upper = chain (boundsRules lower upper) (gives (record { lower = lower; upper = upper }))
 
+-- clamping a sample: 6, since a range may hold anything, then 8
 abbrev pub sampleRules : Range → Float → List Rule
 sampleRules range x = badBounds (sampleOrder (range .lower) (range .upper)) ∷ unordered 0 (sampleOrder x (range .lower)) ∷ []
 

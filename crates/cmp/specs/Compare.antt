@@ -27,6 +27,7 @@ testedOutcome (tested.Refused f) = refusalOf f
 abbrev pub kindsDiffer : Value → Value → Bool
 kindsDiffer a b = not (eqb (kindNumber (kindOf a)) (kindNumber (kindOf b)))
 
+-- comparison, its six tests and the total order: 7
 abbrev pub valueRules : Value → Value → List Rule
 valueRules a b = rule 7 0 (kindsDiffer a b) ∷ []
 

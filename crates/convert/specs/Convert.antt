@@ -133,6 +133,7 @@ intoRules form x =
 abbrev pub ownKind : Value → Kind → Bool
 ownKind v to = eqb (kindNumber (kindOf v)) (kindNumber to)
 
+-- to its own kind no rule; to another 1, 2, 3, 4, 5
 abbrev pub convertRules : Value → Kind → List Rule
 convertRules v to = cond (ownKind v to) [] (intoRules (formOf to) (exactOf v))
 

@@ -29,9 +29,11 @@ use Rattle.key.specs.Key.{nanRules, writeRules, writeOf, writeExit, numbersIn, 
 
 -- ---- rows: their own rule, then those of each sample, the lowest index deciding
 
+-- 9, then those of the conversion
 abbrev pub rowRules : {A B : Type 0} → (A → List Rule) → List A → List B → List Rule
 rowRules rules src dst = lengthRules src dst ++ eachOf rules 0 src
 
+-- 6, then 8 for each sample
 abbrev pub rowClampRules : Range → List Float → List Rule
 rowClampRules range row = boundsRules (range .lower) (range .upper) ++ eachOf (λ x. unordered 0 (sampleOrder x (range .lower)) ∷ []) 0 row
 

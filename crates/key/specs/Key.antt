@@ -114,6 +114,7 @@ canonicalRules at ns = eachOf (λ (f : Kind × ℕ). rule 12 0 (notCanonical (fo
 abbrev pub fieldsFrom : List (Kind × ℕ) → List Field
 fieldsFrom ns = map (λ (f : Kind × ℕ). fieldFor (valueOf (f .0) (bitsFrom (formOf (f .0)) (f .1)))) ns
 
+-- 11, then 9 for a key that isn't as long as the shape's, then 12 for the first field that isn't canonical
 abbrev pub readRules : Shape → List ℕ → List Rule
 readRules s key =
     rule 11 0 (badCount (s .count))

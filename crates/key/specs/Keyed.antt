@@ -42,6 +42,7 @@ abbrev pub floatValue : Format → Float → Value
 floatValue binary32 x = F32 x 0
 floatValue binary64 x = F64 x 0
 
+-- an integer stays as it is
 abbrev pub normalIn : Content → Value → Value
 normalIn (natural k n) v = v
 normalIn (integer k z) v = v

@@ -92,6 +92,7 @@ shapesDiffer [] (y ∷ ys) = true
 shapesDiffer (x ∷ xs) [] = true
 shapesDiffer (x ∷ xs) (y ∷ ys) = kindsDiffer (x .value) (y .value) || shapesDiffer xs ys
 
+-- comparison: 11 for either count, then 7
 abbrev pub recordRules : Record → Record → List Rule
 recordRules a b =
     rule 11 0 (badCount (a .count) || badCount (b .count))

@@ -13,5 +13,3 @@ clampAnswer range row = chain (boundsRules (range .lower) (range .upper)) (rowAn
 
 unfoldable pub clampExit : Range → List Float → List Float
 clampExit range row = lentAfter (λ d. rowResults (sampleOf range) row) (clampAnswer range row) row
-
--- ---- what the passes compute, by the language's own operators

@@ -40,6 +40,7 @@ f32ToU16 x = mapped bitsOf (convertOf (F32 x 0) kind.U16)
 
 -- ---- the row
 
+-- rows of two lengths are 9
 abbrev pub lengthRules : {A B : Type 0} → List A → List B → List Rule
 lengthRules src dst = rule 9 0 (not (eqb (length src) (length dst))) ∷ []
 
@@ -49,5 +50,3 @@ convertAnswer conv src dst = chain (lengthRules src dst) (rowAnswer conv 0 src)
 
 unfoldable pub convertExit : {A B : Type 0} → (A → Outcome B) → List A → List B → List B
 convertExit conv src dst = lentAfter (λ d. rowResults conv src) (convertAnswer conv src dst) dst
-
--- ---- what the passes compute, by the language's own operators

@@ -52,6 +52,7 @@ shapeFor ns = record { places = padded 12 (placeFor kind.U8) (map placeIn ns); c
 abbrev pub fieldBits : Field → ℕ
 fieldBits f = bitsOf (f .value)
 
+-- the bits of the fields that count
 abbrev pub recordBits : Record → List ℕ
 recordBits r = map fieldBits (fieldsOf r)
 
@@ -61,6 +62,7 @@ recordBits r = map fieldBits (fieldsOf r)
 abbrev pub uneven : List ℕ → List ℕ → Bool
 uneven ns bs = not (eqb (length ns) (length bs))
 
+-- of two records: 7, 9, and 4 in the first before 4 in the second
 abbrev pub twoRecordsRules : List ℕ → List ℕ → List ℕ → List ℕ → List Rule
 twoRecordsRules ns xs ms ys =
     rule 7 0 (anyUnnamed ns || anyUnnamed ms)
@@ -69,9 +71,11 @@ twoRecordsRules ns xs ms ys =
     ∷ wideRule (samplesOf ms ys)
     ∷ []
 
+-- of one record: 7, 9, 4
 abbrev pub fieldRules : List ℕ → List ℕ → List Rule
 fieldRules ns bs = rule 7 0 (anyUnnamed ns) ∷ rule 9 0 (uneven ns bs) ∷ wideRule (samplesOf ns bs) ∷ []
 
+-- of a shape and a lent row of bits: 7, then 9 for a row that isn't as long
 abbrev pub roomRules : List ℕ → ℕ → List Rule
 roomRules ns room = rule 7 0 (anyUnnamed ns) ∷ rule 9 0 (not (eqb (length ns) room)) ∷ []
 
@@ -99,5 +103,3 @@ readExit ns key old = lentAfter recordBits (recordRead ns key (length old)) old
 -- a call that gives nothing but its success
 abbrev pub successOf : {A : Type 0} → Outcome A → Outcome Success
 successOf o = mapped (λ r. done) o
-
--- ---- what the code's own steps are held to

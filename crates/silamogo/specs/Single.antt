@@ -18,6 +18,7 @@ use Rattle.silamogo.specs.Samples.{kindFor, anyWide, valueFor, samplesRu
 
 -- ---- two samples, and three
 
+-- 7, 4
 abbrev pub twoRules : Sample → Sample → List Rule
 twoRules a b = samplesRules (a .kind ∷ b .kind ∷ []) (a ∷ b ∷ [])
 
@@ -36,6 +37,7 @@ minOf a b = twoThen choose.minOf a b
 unfoldable pub maxOf : Sample → Sample → Outcome Value
 maxOf a b = twoThen choose.maxOf a b
 
+-- 7, 4
 abbrev pub threeRules : Sample → Sample → Sample → List Rule
 threeRules v lower upper = samplesRules (v .kind ∷ lower .kind ∷ upper .kind ∷ []) (v ∷ lower ∷ upper ∷ [])
 
@@ -44,6 +46,7 @@ clampOf v lower upper = chain (threeRules v lower upper) (choose.clampOf (valueF
 
 -- ---- to another kind
 
+-- 7, for the number of the target too, and 4
 abbrev pub kindRules : Sample → ℕ → List Rule
 kindRules v to = samplesRules (v .kind ∷ to ∷ []) (v ∷ [])
 
@@ -60,6 +63,7 @@ notFloat n = not (eqb n 8 || eqb n 9)
 abbrev pub ofFloat : {A : Type 0} → (ℕ → ℕ → ℕ → A) → Sample → A
 ofFloat tell s = cond (eqb (s .kind) 8) (tell 23 8 (s .bits)) (tell 52 11 (s .bits))
 
+-- 7 for a kind that is no float, and 4
 abbrev pub floatRules : Sample → List Rule
 floatRules s = rule 7 0 (notFloat (s .kind)) ∷ rule 4 0 (anyWide (s ∷ [])) ∷ []
 
