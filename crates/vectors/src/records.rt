@@ -133,11 +133,8 @@ fn with_value(r: Record, n: usize, v: Value) -> Record
 
 // The count and the kinds of all twelve places.
 fn shape_like(r: Record) -> Shape {
-    let p = Place { kind: Kind::U8 };
-    let mut s = Shape {
-        places: [p; 12],
-        count: r.count,
-    };
+    let mut s = record::blank_shape();
+    s.count = r.count;
     let mut at = 0;
     while at < 12 {
         s.places[at] = Place {
