@@ -20,7 +20,7 @@ use Rattle.sample.proofs.Samplings.{length-samples}
 use Rattle.sample.proofs.Joining.{count-joined, left-joined, samples-of-joined, small, no-samples}
 use Rattle.block.specs.Output.{bytesFor}
 use Rattle.block.specs.Migrate.{outputOf, migrateOf, placedFrom, blockAnswer, stepSamples, stepAnswer}
-use Rattle.block.specs.Theorem.{Blocks, none, last, more, Reached, writtenBy, stepped, runOf, begun, BlocksDecide}
+use Rattle.block.specs.Theorem.{Blocks, none, last, more, Reached, writtenBy, stepped, runOf, start, BlocksDecide}
 use Rattle.block.proofs.Blocks.{past-room, left-over, past-left}
 use Rattle.block.proofs.Joining.{answer-joined, answer-placed, output-joined}
 
@@ -134,21 +134,21 @@ module _ (from to : Kind) (room : ℕ) where
       subst (Decides (runOf from to room (stepped from to room r b) bs)) e
       (run-decides rest (stepped from to room r b) (p ++ b) (step-stands r p b st (shorter (p ++ b) (joined bs) short) fits ends) short)
 
-  begun-decided : gives done ≡ rowAnswer (bitsTo to) 0 (samplesOf from [])
+  start-decided : gives done ≡ rowAnswer (bitsTo to) 0 (samplesOf from [])
   unfolding rowAnswer
-  begun-decided = sym (ap (rowAnswer (bitsTo to) 0) (no-samples from))
+  start-decided = sym (ap (rowAnswer (bitsTo to) 0) (no-samples from))
 
-  begun-laid : [] ≡ outputOf from to []
+  start-laid : [] ≡ outputOf from to []
   unfolding outputOf rowResults bytesFor
-  begun-laid = sym (ap (λ s. bytesFor to (rowResults (bitsTo to) s)) (no-samples from))
+  start-laid = sym (ap (λ s. bytesFor to (rowResults (bitsTo to) s)) (no-samples from))
 
-  begun-stands : Stands begun []
-  begun-stands = record {
+  start-stands : Stands start []
+  start-stands = record {
     whole = zero-mod (bytesOf from);
     count = sym (zero-div (bytesOf from));
-    decided = begun-decided;
-    laid = λ q. begun-laid;
+    decided = start-decided;
+    laid = λ q. start-laid;
   }
 
 pub blocks-decide : BlocksDecide
-blocks-decide from to room bs blocks short = run-decides from to room blocks begun [] (begun-stands from to room) short
+blocks-decide from to room bs blocks short = run-decides from to room blocks start [] (start-stands from to room) short

@@ -37,12 +37,13 @@ abbrev pub runOf : Kind → Kind → ℕ → Reached → List (List ℕ) → Rea
 runOf from to room r [] = r
 runOf from to room r (b ∷ bs) = runOf from to room (stepped from to room r b) bs
 
-abbrev pub begun : Reached
-begun = record { samples = 0; answer = gives done; output = [] }
+-- before the first block
+abbrev pub start : Reached
+start = record { samples = 0; answer = gives done; output = [] }
 
 -- the blocks' count is the count of the whole, and their answer and output are those of the whole: the lowest bad sample decides
 abbrev pub BlocksDecide : Type 0
 BlocksDecide =
     (from to : Kind) (room : ℕ) (bs : List (List ℕ)) → Blocks from to room bs → length (joined bs) < 2 ^ 64
-    → (runOf from to room begun bs .samples ≡ countOf from (joined bs))
-    × (mapped (λ d. runOf from to room begun bs .output) (runOf from to room begun bs .answer) ≡ migrateOf from to (joined bs))
+    → (runOf from to room start bs .samples ≡ countOf from (joined bs))
+    × (mapped (λ d. runOf from to room start bs .output) (runOf from to room start bs .answer) ≡ migrateOf from to (joined bs))

@@ -19,19 +19,19 @@ use Rattle.record.specs.Record.{recordRules}
 use Rattle.record.specs.Record as «record»
 use Rattle.silamogo.specs.Samples.{kindFor, valueFor}
 use Rattle.silamogo.specs.Single.{twoRules, compareOf, totalOf, minOf, maxOf, threeRules, clampOf, kindRules, convertOf, classifyOf, samplePosition}
-use Rattle.silamogo.specs.Records.{samplesOf, recordFor, shapeFor, twoRecordsRules, fieldRules, roomRules}
+use Rattle.silamogo.specs.Records.{pairedSamples, recordFor, shapeFor, twoRecordsRules, fieldRules, roomRules}
 use Rattle.silamogo.specs.Records.{recordsOrder, keyLength, keyExit, recordRead, readExit}
-use Rattle.sample.specs.Samples as bytes
+use Rattle.sample.specs.Samples.{samplesOf}
 use Rattle.sample.specs.Refusals.{bitsTo, leftRules, answerOf}
 use Rattle.demands.specs.Boundary.{AtTheBoundary}
 use Rattle.demands.proofs.Demand1.{row-chain, through}
 
 by-migrate : (from to : Kind) (input : List ℕ)
-    → By (leftRules from input ++ eachOf (λ v. convertRules v to) 0 (bytes.samplesOf from input)) (answerOf from to input)
+    → By (leftRules from input ++ eachOf (λ v. convertRules v to) 0 (samplesOf from input)) (answerOf from to input)
 unfolding answerOf bitsTo
-by-migrate from to input = by-same (leftRules from input ++ eachOf (λ v. convertRules v to) 0 (bytes.samplesOf from input)) done
+by-migrate from to input = by-same (leftRules from input ++ eachOf (λ v. convertRules v to) 0 (samplesOf from input)) done
     (ap (chain (leftRules from input))
-    (row-chain (bitsTo to) (λ v. convertRules v to) (λ v. bitsOf (convertedTo v to)) (λ v. through bitsOf v to) 0 (bytes.samplesOf from input)))
+    (row-chain (bitsTo to) (λ v. convertRules v to) (λ v. bitsOf (convertedTo v to)) (λ v. through bitsOf v to) 0 (samplesOf from input)))
 
 pub at-the-boundary : AtTheBoundary
 unfolding classifyOf samplePosition compareOf totalOf minOf maxOf clampOf convertOf recordsOrder keyLength recordRead keyExit
@@ -45,8 +45,8 @@ at-the-boundary = record {
   max = λ a b. by-chain (twoRules a b ++ choiceRules (valueFor a) (valueFor b)) _;
   clamp = λ v lower upper. by-chain (threeRules v lower upper ++ clampRules (valueFor v) (valueFor lower) (valueFor upper)) _;
   convert = λ v to. by-chain (kindRules v to ++ convertRules (valueFor v) (kindFor to)) _;
-  compare-records = λ ns xs ms ys. by-chain (twoRecordsRules ns xs ms ys ++ recordRules (recordFor (samplesOf ns xs)) (recordFor (samplesOf ms ys))) _;
-  write-key = λ ns bs room. by-chain (fieldRules ns bs ++ writeRules (recordFor (samplesOf ns bs)) room) _;
+  compare-records = λ ns xs ms ys. by-chain (twoRecordsRules ns xs ms ys ++ recordRules (recordFor (pairedSamples ns xs)) (recordFor (pairedSamples ms ys))) _;
+  write-key = λ ns bs room. by-chain (fieldRules ns bs ++ writeRules (recordFor (pairedSamples ns bs)) room) _;
   read-key = λ ns key room. by-chain (roomRules ns room ++ readRules (shapeFor ns) key) _;
   migrate = by-migrate;
   key-buffer = λ ns bs buffer n p h. refused-unchanged _ buffer h;

@@ -12,12 +12,12 @@ use Rattle.convert.specs.Inner.{intoOf}
 use Rattle.record.specs.Record.{lexicalOf, shapesDiffer}
 use Rattle.record.specs.Record as «record»
 use Rattle.bytewise.specs.Numbers.{bigEndian, fromBigEndian}
-use Rattle.key.specs.Key.{keyOf, writeOf, writeExit, bytesIn, numbersIn, readOf}
+use Rattle.key.specs.Key.{keyOf, writeOf, writeExit, bytesIn, keyNumbers, readOf}
 use Rattle.value.specs.Rules.{eachOf}
 use Rattle.demands.specs.Marked.{answerTo, marked, AllAnswered}
 
 pub all-answered : AllAnswered marked
 unfolding answerTo marked classOf scaledOf compareOf totalOf convertOf intoOf madeIn heldIn encodeOf clampOf clampedBy «record».compareOf lexicalOf shapesDiffer
-    writeOf writeExit eachOf keyOf bigEndian readOf numbersIn bytesIn fromBigEndian
+    writeOf writeExit eachOf keyOf bigEndian readOf keyNumbers bytesIn fromBigEndian
     unit stepOf floatBits patternOf magOf absOf positionOf toBits ofBits ofFields odd size span climb isNan
 all-answered = refl

@@ -25,7 +25,7 @@ use Rattle.record.specs.declared.Record.{Record}
 use Rattle.record.specs.declared.Shape.{Shape}
 use Rattle.record.specs.Record.{fieldsOf, kindsIn, recordRules, placeRules, setOf, getOf, pushOf, countRules, shapeOf}
 use Rattle.record.specs.Record as «record»
-use Rattle.key.specs.Key.{nanRules, writeRules, writeOf, writeExit, numbersIn, canonicalRules, readRules, readOf}
+use Rattle.key.specs.Key.{nanRules, writeRules, writeOf, writeExit, keyNumbers, canonicalRules, readRules, readOf}
 
 -- ---- rows: their own rule, then those of each sample, the lowest index deciding
 
@@ -90,7 +90,7 @@ pub record InOrder : Type 0 where
   pub min-max-records : (a b : Record) → numbersOf («record».choiceRules a b) ≡ 11 ∷ 7 ∷ 8 ∷ []
   pub place : (at : ℕ) → numbersOf (placeRules at) ≡ 11 ∷ []
   pub write-key : (r : Record) (room : ℕ) → numbersOf (writeRules r room) ≡ 11 ∷ 10 ∷ numbersOf (nanRules 0 (fieldsOf r))
-  pub read-key : (s : Shape) (key : List ℕ) → numbersOf (readRules s key) ≡ 11 ∷ 9 ∷ numbersOf (canonicalRules 0 (numbersIn (kindsIn s) key))
+  pub read-key : (s : Shape) (key : List ℕ) → numbersOf (readRules s key) ≡ 11 ∷ 9 ∷ numbersOf (canonicalRules 0 (keyNumbers (kindsIn s) key))
   pub each-nan : (at : ℕ) (f : Field) (fs : List Field) → numbersOf (nanRules at (f ∷ fs)) ≡ 1 ∷ numbersOf (nanRules (suc at) fs)
   pub each-canonical : (at : ℕ) (f : Kind × ℕ) (fs : List (Kind × ℕ)) → numbersOf (canonicalRules at (f ∷ fs)) ≡ 12 ∷ numbersOf (canonicalRules (suc at) fs)
 

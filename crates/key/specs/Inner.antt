@@ -15,7 +15,7 @@ use Rattle.value.specs.Meaning.{valueOf}
 use Rattle.record.specs.declared.Field.{Field}
 use Rattle.record.specs.declared.Record.{Record}
 use Rattle.record.specs.Record.{fieldFor, fieldsOf}
-use Rattle.key.specs.Key.{floatKey, patternFrom, bitsFrom, notCanonical, nanRules, numbersIn, canonicalRules, fieldsFrom}
+use Rattle.key.specs.Key.{floatKey, patternFrom, bitsFrom, notCanonical, nanRules, keyNumbers, canonicalRules, fieldsFrom}
 use Rattle.key.specs.declared.Weights.{Weights}
 use Rattle.key.specs.declared.Weights.the-variants as weights
 
@@ -66,7 +66,7 @@ FirstNan r i = (n : ℕ) → chain (nanRules 0 (fieldsOf r)) (gives n) ≡ refus
 
 -- the fields of a key, or 12; `at` is the index of the first
 unfoldable pub readFields : ℕ → List Kind → List ℕ → Outcome (List Field)
-readFields at ks key = chain (canonicalRules at (numbersIn ks key)) (gives (fieldsFrom (numbersIn ks key)))
+readFields at ks key = chain (canonicalRules at (keyNumbers ks key)) (gives (fieldsFrom (keyNumbers ks key)))
 
 -- one field, whose key is n, and then the others
 abbrev pub fieldThen : ℕ → Kind → ℕ → Outcome (List Field) → Outcome (List Field)

@@ -103,9 +103,9 @@ bytesIn [] = 0
 bytesIn (k ∷ ks) = bytesOf k + bytesIn ks
 
 -- each field's kind, and the number of its key
-unfoldable pub numbersIn : List Kind → List ℕ → List (Kind × ℕ)
-numbersIn [] key = []
-numbersIn (k ∷ ks) key = (k, fromBigEndian 0 (take (bytesOf k) key)) ∷ numbersIn ks (drop (bytesOf k) key)
+unfoldable pub keyNumbers : List Kind → List ℕ → List (Kind × ℕ)
+keyNumbers [] key = []
+keyNumbers (k ∷ ks) key = (k, fromBigEndian 0 (take (bytesOf k) key)) ∷ keyNumbers ks (drop (bytesOf k) key)
 
 -- `at` is the index of the first field
 abbrev pub canonicalRules : ℕ → List (Kind × ℕ) → List Rule
@@ -119,7 +119,7 @@ abbrev pub readRules : Shape → List ℕ → List Rule
 readRules s key =
     rule 11 0 (badCount (s .count))
     ∷ rule 9 0 (not (eqb (length key) (bytesIn (kindsIn s))))
-    ∷ canonicalRules 0 (numbersIn (kindsIn s) key)
+    ∷ canonicalRules 0 (keyNumbers (kindsIn s) key)
 
 unfoldable pub readOf : Shape → List ℕ → Outcome Record
-readOf s key = chain (readRules s key) (gives (recordOf (fieldsFrom (numbersIn (kindsIn s) key))))
+readOf s key = chain (readRules s key) (gives (recordOf (fieldsFrom (keyNumbers (kindsIn s) key))))

@@ -19,7 +19,7 @@ use Rattle.sample.specs.Samples.{countOf, leftOf, samplesOf, joined}
 use Rattle.sample.specs.Refusals.{bitsTo}
 use Rattle.sample.proofs.Samplings.{length-samples}
 use Rattle.block.specs.Migrate.{outputOf, migrateOf, placedFrom, blockAnswer, stepSamples, stepAnswer, stepExit}
-use Rattle.block.specs.Theorem.{Blocks, none, last, more, Reached, writtenBy, stepped, runOf, begun}
+use Rattle.block.specs.Theorem.{Blocks, none, last, more, Reached, writtenBy, stepped, runOf, start}
 use Rattle.block.proofs.Samplings.{length-bytes}
 use Rattle.block.proofs.Blocks.{past-room}
 use Rattle.block.proofs.Rowing.{results-length}
@@ -145,8 +145,8 @@ run-decides from to bs m ran short =
     let shaped = blocks from to
     (shape (λ s next b t. fits from to b (t .0))
     (λ s next b t h. ends-whole from to b (next .state .turns) (s .state .turns) (next .state .fault) (t .3 .3) h) (λ s next f. f .0 .2) ran) in
-    let led : runOf from to bufferBytes begun bs ≡ standing from to m =
-    sym (run-folded from to bs begun) ∙ leads (stepped from to bufferBytes) (standing from to) (step-stands from to) (fail-stands from to) ran in
+    let led : runOf from to bufferBytes start bs ≡ standing from to m =
+    sym (run-folded from to bs start) ∙ leads (stepped from to bufferBytes) (standing from to) (step-stands from to) (fail-stands from to) ran in
     subst (λ (x : Reached). (x .samples ≡ countOf from (joined bs)) × (mapped (λ d. x .output) (x .answer) ≡ migrateOf from to (joined bs))) led
     (blocks-decide from to bufferBytes bs shaped short)
 

@@ -15,7 +15,7 @@ use Rattle.record.specs.declared.Record.{Record}
 use Rattle.record.specs.declared.Shape.{Shape}
 use Rattle.record.specs.Record.{blank, blankShape, fieldFor, fieldsOf, placeFor}
 use Rattle.silamogo.specs.Samples.{kindFor, valueFor}
-use Rattle.silamogo.specs.Records.{sampleFor, samplesOf, padded, fieldIn, recordFor, placeIn, shapeFor, fieldBits}
+use Rattle.silamogo.specs.Records.{sampleFor, pairedSamples, padded, fieldIn, recordFor, placeIn, shapeFor, fieldBits}
 use Rattle.silamogo.proofs.Padding.{padded-length, one-more, all-filled}
 use Rattle.silamogo.proofs.Pairs.{pairs-length, fields-length, field-at}
 
@@ -39,7 +39,7 @@ module _ {A : Type 0} (none : A) (xs : List A) (end at : ℕ) (places : List A) 
 
 module _ (ns bs : List ℕ) where
   abbrev pub RecordFilled : ℕ → Record → ℕ → Type 0
-  RecordFilled end r at = Filled (fieldFor (U8 0)) (map fieldIn (samplesOf ns bs)) end (r .fields) at
+  RecordFilled end r at = Filled (fieldFor (U8 0)) (map fieldIn (pairedSamples ns bs)) end (r .fields) at
 
 module _ (ns bs : List ℕ) (even : length ns ≡ length bs) where
   pub record-start : {end : ℕ} {r : Record} → end ≡ min (length ns) 12 → r ≡ blank → RecordFilled ns bs end r 0
@@ -49,11 +49,11 @@ module _ (ns bs : List ℕ) (even : length ns ≡ length bs) where
   module _ (end : ℕ) (r : Record) (at : ℕ) (filled : RecordFilled ns bs end r at) where
     pub record-more : at < end → {v : Value} → v ≡ valueFor (sampleFor (getD ns at 0) (getD bs at 0))
         → RecordFilled ns bs end (record { fields = set (r .fields) at (fieldFor v); count = r .count }) (at + 1)
-    record-more h q = filled-more (fieldFor (U8 0)) (map fieldIn (samplesOf ns bs)) end at (r .fields) filled h
+    record-more h q = filled-more (fieldFor (U8 0)) (map fieldIn (pairedSamples ns bs)) end at (r .fields) filled h
         (fieldIn (sampleFor 0 0)) (field-at ns bs even at q)
 
-    pub record-end : end ≤ at → _≡_ {A = Record} (record { fields = r .fields; count = length ns }) (recordFor (samplesOf ns bs))
-    record-end h = rw (filled-all (fieldFor (U8 0)) (map fieldIn (samplesOf ns bs)) end at (r .fields) filled h, pairs-length ns bs even)
+    pub record-end : end ≤ at → _≡_ {A = Record} (record { fields = r .fields; count = length ns }) (recordFor (pairedSamples ns bs))
+    record-end h = rw (filled-all (fieldFor (U8 0)) (map fieldIn (pairedSamples ns bs)) end at (r .fields) filled h, pairs-length ns bs even)
 
 -- ---- a shape
 

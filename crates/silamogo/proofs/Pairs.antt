@@ -11,7 +11,7 @@ use Rattle.value.specs.declared.Value.{Value}
 use Rattle.record.specs.Record.{fieldFor}
 use Rattle.silamogo.specs.declared.Sample.{Sample}
 use Rattle.silamogo.specs.Samples.{unnamed, anyUnnamed, tooWide, firstWide, valueFor}
-use Rattle.silamogo.specs.Records.{sampleFor, samplesOf, fieldIn}
+use Rattle.silamogo.specs.Records.{sampleFor, pairedSamples, fieldIn}
 
 -- ---- the walk over kind numbers: those passed name kinds, and what is left decides
 
@@ -36,14 +36,14 @@ module _ (ns : List ℕ) (at : ℕ) (named : Named ns at) where
 
 -- ---- pairs
 
-pub pairs-length : (ns bs : List ℕ) → length ns ≡ length bs → length (samplesOf ns bs) ≡ length ns
-unfolding samplesOf
+pub pairs-length : (ns bs : List ℕ) → length ns ≡ length bs → length (pairedSamples ns bs) ≡ length ns
+unfolding pairedSamples
 pairs-length [] bs q = refl
 pairs-length (n ∷ ns) [] q = absurd (omega arith)
 pairs-length (n ∷ ns) (b ∷ bs) q = ap suc (pairs-length ns bs (omega arith))
 
-pair-at : (ns bs : List ℕ) → length ns ≡ length bs → (at : ℕ) → getD (samplesOf ns bs) at (sampleFor 0 0) ≡ sampleFor (getD ns at 0) (getD bs at 0)
-unfolding samplesOf
+pair-at : (ns bs : List ℕ) → length ns ≡ length bs → (at : ℕ) → getD (pairedSamples ns bs) at (sampleFor 0 0) ≡ sampleFor (getD ns at 0) (getD bs at 0)
+unfolding pairedSamples
 pair-at [] [] q at = refl
 pair-at [] (b ∷ bs) q at = absurd (omega arith)
 pair-at (n ∷ ns) [] q at = absurd (omega arith)
@@ -52,14 +52,14 @@ pair-at (n ∷ ns) (b ∷ bs) q (suc at) = pair-at ns bs (omega arith) at
 
 -- the walk over pairs: those passed have bits of their kinds
 abbrev pub Fitting : List ℕ → List ℕ → ℕ → Type 0
-Fitting ns bs at = (at ≤ length ns) × (firstWide (samplesOf ns bs) ≡ at + firstWide (drop at (samplesOf ns bs)))
+Fitting ns bs at = (at ≤ length ns) × (firstWide (pairedSamples ns bs) ≡ at + firstWide (drop at (pairedSamples ns bs)))
 
 pub fitting-start : (ns bs : List ℕ) → Fitting ns bs 0
 fitting-start ns bs = (omega arith, omega arith)
 
 module _ (ns bs : List ℕ) (even : length ns ≡ length bs) where
   abbrev ss : List Sample
-  ss = samplesOf ns bs
+  ss = pairedSamples ns bs
 
   module _ (at : ℕ) (fitting : Fitting ns bs at) where
     module _ (h : at < length ns) {t : Bool} (q : t ≡ tooWide (sampleFor (getD ns at 0) (getD bs at 0))) where

@@ -20,9 +20,10 @@ use Rattle.key.specs.Key.{writtenOutcome, writeOf, writeExit, readOf}
 use Rattle.key.proofs.ReadSteps.{read-count}
 use Rattle.silamogo.specs.declared.Answer.{Answer}
 use Rattle.silamogo.specs.declared.Measured.{Measured}
-use Rattle.silamogo.specs.Answer.{answerOf, measuredOf}
+use Rattle.silamogo.specs.Answer.{answeredOf, measuredOf}
 use Rattle.silamogo.specs.Samples.{anyUnnamed, firstWide}
-use Rattle.silamogo.specs.Records.{samplesOf, recordFor, shapeFor, recordBits, uneven, recordsOrder, keyLength, keyExit, recordRead, readExit, successOf}
+use Rattle.silamogo.specs.Records.{pairedSamples, recordFor, shapeFor, recordBits, uneven, successOf}
+use Rattle.silamogo.specs.Records.{recordsOrder, keyLength, keyExit, recordRead, readExit}
 use Rattle.silamogo.specs.Inner.{recordedOutcome, Room}
 use Rattle.silamogo.proofs.Pairs.{pairs-length}
 use Rattle.silamogo.proofs.Filling.{shape-places}
@@ -34,16 +35,16 @@ pub even-both : (ns xs ms ys : List ℕ) → (uneven ns xs || uneven ms ys) ≡ 
 even-both ns xs ms ys h = let p = neither (uneven ns xs) (uneven ms ys) h in (even-lengths ns xs (p .0), even-lengths ms ys (p .1))
 
 -- the test of bits by the index that was found
-module _ (ns bs : List ℕ) (even : length ns ≡ length bs) {i : ℕ} (i-is : i ≡ firstWide (samplesOf ns bs)) where
-  wide-test : ltb (firstWide (samplesOf ns bs)) (length (samplesOf ns bs)) ≡ ltb i (length ns)
+module _ (ns bs : List ℕ) (even : length ns ≡ length bs) {i : ℕ} (i-is : i ≡ firstWide (pairedSamples ns bs)) where
+  wide-test : ltb (firstWide (pairedSamples ns bs)) (length (pairedSamples ns bs)) ≡ ltb i (length ns)
   wide-test = rw (pairs-length ns bs even, ← i-is)
 
   pub wide-stop : {A : Type 0} (next : Outcome A) → i < length ns
-      → refuses 4 i ≡ refuseIf (ltb (firstWide (samplesOf ns bs)) (length (samplesOf ns bs))) 4 (firstWide (samplesOf ns bs)) next
+      → refuses 4 i ≡ refuseIf (ltb (firstWide (pairedSamples ns bs)) (length (pairedSamples ns bs))) 4 (firstWide (pairedSamples ns bs)) next
   wide-stop next h = rw (wide-test, lt-ltb i (length ns) h, ← i-is)
 
   pub wide-past : {A : Type 0} (next : Outcome A) → length ns ≤ i
-      → refuseIf (ltb (firstWide (samplesOf ns bs)) (length (samplesOf ns bs))) 4 (firstWide (samplesOf ns bs)) next ≡ next
+      → refuseIf (ltb (firstWide (pairedSamples ns bs)) (length (pairedSamples ns bs))) 4 (firstWide (pairedSamples ns bs)) next ≡ next
   wide-past next h = rw (wide-test, le-ltb i (length ns) h)
 
 -- ---- comparison
@@ -62,17 +63,17 @@ module _ (ns xs ms ys : List ℕ) {s t : Bool} (s-is : s ≡ anyUnnamed ns) (t-i
       abbrev both : (length ns ≡ length xs) × (length ms ≡ length ys)
       both = even-both ns xs ms ys even
 
-      module _ {i : ℕ} (i-is : i ≡ firstWide (samplesOf ns xs)) where
+      module _ {i : ℕ} (i-is : i ≡ firstWide (pairedSamples ns xs)) where
         pub order-first-wide : i < length ns → refuses 4 i ≡ recordsOrder ns xs ms ys
         unfolding recordsOrder
         order-first-wide h = rw (← s-is, ← t-is, named, even) (wide-stop ns xs (both .0) i-is _ h)
 
-        module _ (first : length ns ≤ i) {j : ℕ} (j-is : j ≡ firstWide (samplesOf ms ys)) where
+        module _ (first : length ns ≤ i) {j : ℕ} (j-is : j ≡ firstWide (pairedSamples ms ys)) where
           pub order-second-wide : j < length ms → refuses 4 j ≡ recordsOrder ns xs ms ys
           unfolding recordsOrder
           order-second-wide h = rw (← s-is, ← t-is, named, even) (wide-stop ms ys (both .1) j-is _ h ∙ sym (wide-past ns xs (both .0) i-is _ first))
 
-          pub order-given : length ms ≤ j → {a b : Record} → a ≡ recordFor (samplesOf ns xs) → b ≡ recordFor (samplesOf ms ys)
+          pub order-given : length ms ≤ j → {a b : Record} → a ≡ recordFor (pairedSamples ns xs) → b ≡ recordFor (pairedSamples ms ys)
               → compareOf a b ≡ recordsOrder ns xs ms ys
           unfolding recordsOrder
           order-given second p q =
@@ -99,16 +100,16 @@ module _ (ns bs old : List ℕ) where
       unfolding keyLength
       write-uneven h q = refused-so q (rw (← s-is, named, ne-eqb (length ns) (length bs) h))
 
-      module _ (even : length ns ≡ length bs) {i : ℕ} (i-is : i ≡ firstWide (samplesOf ns bs)) where
+      module _ (even : length ns ≡ length bs) {i : ℕ} (i-is : i ≡ firstWide (pairedSamples ns bs)) where
         pub write-wide : i < length ns → {m : Measured} → m ≡ measuredOf (refuses 4 i) → Left m old
         unfolding keyLength
         write-wide h q = refused-so q (rw (← s-is, named, eq-eqb (length ns) (length bs) even) (wide-stop ns bs even i-is _ h))
 
-        pub write-given : length ns ≤ i → {r : Record} → r ≡ recordFor (samplesOf ns bs) → (w : Written) (new : List ℕ)
+        pub write-given : length ns ≤ i → {r : Record} → r ≡ recordFor (pairedSamples ns bs) → (w : Written) (new : List ℕ)
             → (writtenOutcome w ≡ writeOf r (length old)) × (new ≡ writeExit r old) → {m : Measured} → m ≡ measuredOf (writtenOutcome w) → Left m new
         unfolding keyLength keyExit writeExit
         write-given h q w new e a =
-            let past : writeOf (recordFor (samplesOf ns bs)) (length old) ≡ keyLength ns bs (length old) =
+            let past : writeOf (recordFor (pairedSamples ns bs)) (length old) ≡ keyLength ns bs (length old) =
             rw (← s-is, named, eq-eqb (length ns) (length bs) even) (sym (wide-past ns bs even i-is _ h)) in
             (a ∙ ap measuredOf (rw q at (e .0) ∙ past), rw q at (e .1) ∙ rw (← past))
 
@@ -124,31 +125,31 @@ module _ (x : Recorded) (old : List ℕ) where
     done-room h = rw q at h
 
     pub done-bits : (new : List ℕ) → length new ≡ length old → new ≡ recordBits (x .«record»)
-        → (_≡_ {A = Answer} (record { number = 0; place = 0 }) (answerOf (successOf (recordedOutcome x))))
+        → (_≡_ {A = Answer} (record { number = 0; place = 0 }) (answeredOf (successOf (recordedOutcome x))))
         × (new ≡ lentAfter recordBits (recordedOutcome x) old)
     done-bits new same e =
         let o : recordedOutcome x ≡ gives (x .«record») = rw q in
         (rw q, e ∙ sym (given-fills recordBits old o (sym (ap length e) ∙ same)))
 
-  pub refused-bits : (f : Refusal) → x .outcome ≡ made.Refused f → {a : Answer} → a ≡ answerOf (refuses (f .number) (f .place))
-      → (a ≡ answerOf (successOf (recordedOutcome x))) × (old ≡ lentAfter recordBits (recordedOutcome x) old)
+  pub refused-bits : (f : Refusal) → x .outcome ≡ made.Refused f → {a : Answer} → a ≡ answeredOf (refuses (f .number) (f .place))
+      → (a ≡ answeredOf (successOf (recordedOutcome x))) × (old ≡ lentAfter recordBits (recordedOutcome x) old)
   refused-bits f q e = (rw q e, rw q)
 
 module _ (ns key old : List ℕ) where
   abbrev pub Read : Answer → List ℕ → Type 0
-  Read a new = (a ≡ answerOf (successOf (recordRead ns key (length old)))) × (new ≡ readExit ns key old)
+  Read a new = (a ≡ answeredOf (successOf (recordRead ns key (length old)))) × (new ≡ readExit ns key old)
 
-  read-so : {n p : ℕ} {a : Answer} → a ≡ answerOf (refuses n p) → refuses n p ≡ recordRead ns key (length old) → Read a old
+  read-so : {n p : ℕ} {a : Answer} → a ≡ answeredOf (refuses n p) → refuses n p ≡ recordRead ns key (length old) → Read a old
   unfolding readExit
   read-so q h = (rw (← h) q, rw (← h))
 
   module _ {s : Bool} (s-is : s ≡ anyUnnamed ns) where
-    pub read-unnamed : s ≡ true → {a : Answer} → a ≡ answerOf (refuses 7 0) → Read a old
+    pub read-unnamed : s ≡ true → {a : Answer} → a ≡ answeredOf (refuses 7 0) → Read a old
     unfolding recordRead
     read-unnamed h q = read-so q (rw (← s-is, h))
 
     module _ (named : s ≡ false) where
-      pub read-uneven : (length ns ≡ length old → ⊥) → {a : Answer} → a ≡ answerOf (refuses 9 0) → Read a old
+      pub read-uneven : (length ns ≡ length old → ⊥) → {a : Answer} → a ≡ answeredOf (refuses 9 0) → Read a old
       unfolding recordRead
       read-uneven h q = read-so q (rw (← s-is, named, ne-eqb (length ns) (length old) h))
 
@@ -163,7 +164,7 @@ module _ (ns key old : List ℕ) where
             go (gives r) e = let q = read-count (shapeFor ns) key r (shape-places ns) e in (rw (← q .0) at (q .1), sym even ∙ sym (q .0))
             go (refuses n p) e = tt
 
-        pub read-given : (a : Answer) (new : List ℕ) → (a ≡ answerOf (successOf (recordedOutcome x)))
+        pub read-given : (a : Answer) (new : List ℕ) → (a ≡ answeredOf (successOf (recordedOutcome x)))
             × (new ≡ lentAfter recordBits (recordedOutcome x) old) → Read a new
         unfolding recordRead readExit
         read-given a new e =

@@ -19,9 +19,9 @@ use Rattle.silamogo.specs.declared.Sampled.{Sampled}
 use Rattle.silamogo.specs.declared.Measured.{Measured}
 
 -- the number and the place of a refusal, 0 and 0 for success
-abbrev pub answerOf : Outcome Success → Answer
-answerOf (gives d) = record { number = 0; place = 0 }
-answerOf (refuses number place) = record { number = number; place = place }
+abbrev pub answeredOf : Outcome Success → Answer
+answeredOf (gives d) = record { number = 0; place = 0 }
+answeredOf (refuses number place) = record { number = number; place = place }
 
 abbrev pub orderNumber : Order → ℕ
 orderNumber Less = 0

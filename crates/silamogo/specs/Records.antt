@@ -25,10 +25,10 @@ abbrev pub sampleFor : ℕ → ℕ → Sample
 sampleFor number bits = record { kind = number; bits = bits }
 
 -- kind numbers and bits, pair by pair
-unfoldable pub samplesOf : List ℕ → List ℕ → List Sample
-samplesOf [] bs = []
-samplesOf (n ∷ ns) [] = []
-samplesOf (n ∷ ns) (b ∷ bs) = sampleFor n b ∷ samplesOf ns bs
+unfoldable pub pairedSamples : List ℕ → List ℕ → List Sample
+pairedSamples [] bs = []
+pairedSamples (n ∷ ns) [] = []
+pairedSamples (n ∷ ns) (b ∷ bs) = sampleFor n b ∷ pairedSamples ns bs
 
 -- a number of places: the first of a list, and behind its end a filler
 unfoldable pub padded : {A : Type 0} → ℕ → A → List A → List A
@@ -67,13 +67,13 @@ abbrev pub twoRecordsRules : List ℕ → List ℕ → List ℕ → List ℕ →
 twoRecordsRules ns xs ms ys =
     rule 7 0 (anyUnnamed ns || anyUnnamed ms)
     ∷ rule 9 0 (uneven ns xs || uneven ms ys)
-    ∷ wideRule (samplesOf ns xs)
-    ∷ wideRule (samplesOf ms ys)
+    ∷ wideRule (pairedSamples ns xs)
+    ∷ wideRule (pairedSamples ms ys)
     ∷ []
 
 -- of one record: 7, 9, 4
 abbrev pub fieldRules : List ℕ → List ℕ → List Rule
-fieldRules ns bs = rule 7 0 (anyUnnamed ns) ∷ rule 9 0 (uneven ns bs) ∷ wideRule (samplesOf ns bs) ∷ []
+fieldRules ns bs = rule 7 0 (anyUnnamed ns) ∷ rule 9 0 (uneven ns bs) ∷ wideRule (pairedSamples ns bs) ∷ []
 
 -- of a shape and a lent row of bits: 7, then 9 for a row that isn't as long
 abbrev pub roomRules : List ℕ → ℕ → List Rule
@@ -82,15 +82,15 @@ roomRules ns room = rule 7 0 (anyUnnamed ns) ∷ rule 9 0 (not (eqb (length ns) 
 -- ---- the calls
 
 unfoldable pub recordsOrder : List ℕ → List ℕ → List ℕ → List ℕ → Outcome Order
-recordsOrder ns xs ms ys = chain (twoRecordsRules ns xs ms ys) (compareOf (recordFor (samplesOf ns xs)) (recordFor (samplesOf ms ys)))
+recordsOrder ns xs ms ys = chain (twoRecordsRules ns xs ms ys) (compareOf (recordFor (pairedSamples ns xs)) (recordFor (pairedSamples ms ys)))
 
 -- into a buffer of `room` bytes
 unfoldable pub keyLength : List ℕ → List ℕ → ℕ → Outcome ℕ
-keyLength ns bs room = chain (fieldRules ns bs) (writeOf (recordFor (samplesOf ns bs)) room)
+keyLength ns bs room = chain (fieldRules ns bs) (writeOf (recordFor (pairedSamples ns bs)) room)
 
 -- the buffer at the end
 unfoldable pub keyExit : List ℕ → List ℕ → List ℕ → List ℕ
-keyExit ns bs old = lentAfter (λ n. keyOf (fieldsOf (recordFor (samplesOf ns bs)))) (keyLength ns bs (length old)) old
+keyExit ns bs old = lentAfter (λ n. keyOf (fieldsOf (recordFor (pairedSamples ns bs)))) (keyLength ns bs (length old)) old
 
 -- into a lent row of `room` bits
 unfoldable pub recordRead : List ℕ → List ℕ → ℕ → Outcome Record

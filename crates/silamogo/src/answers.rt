@@ -5,7 +5,7 @@ ghost use Rattle.choose.specs.Choose.{chosenOutcome};
 ghost use Rattle.cmp.specs.Compare.{comparedOutcome};
 ghost use Rattle.convert.specs.Convert.{convertedOutcome};
 ghost use Rattle.key.specs.Key.{writtenOutcome};
-ghost use Rattle.silamogo.specs.Answer.{answerOf, orderNumber, orderedOf, classNumber, sampledOf, measuredOf};
+ghost use Rattle.silamogo.specs.Answer.{answeredOf, orderNumber, orderedOf, classNumber, sampledOf, measuredOf};
 use crate::Answer;
 use crate::Measured;
 use crate::Ordered;
@@ -19,7 +19,7 @@ use key::Written;
 use value::Value;
 
 pub(crate) fn answer_refused(number: u8, place: usize) -> Answer
-    ensures { λ r. ⌜ r ≡ answerOf (refuses number place) ⌝ }
+    ensures { λ r. ⌜ r ≡ answeredOf (refuses number place) ⌝ }
 {
     Answer { number, place }
 }

@@ -5,7 +5,7 @@ ghost use Prim.Native.Nat.{_≤_, min};
 ghost use lib.ListN.{length};
 ghost use Rattle.record.specs.Record.{fieldsOf};
 ghost use Rattle.silamogo.specs.Samples.{anyUnnamed, firstWide};
-ghost use Rattle.silamogo.specs.Records.{samplesOf, recordFor, shapeFor, fieldBits};
+ghost use Rattle.silamogo.specs.Records.{pairedSamples, recordFor, shapeFor, fieldBits};
 use crate::Sample;
 use crate::samples::kind_for;
 use crate::samples::too_wide;
@@ -32,7 +32,7 @@ pub(crate) fn any_unnamed(kinds: &[u8]) -> bool
 // The index of the first field with bits that its kind doesn't have, or the number of fields.
 pub(crate) fn first_wide(kinds: &[u8], bits: &[u64]) -> usize
     requires { ⌜ length (now kinds) ≡ length (now bits) ⌝ }
-    ensures { λ r. ⌜ r ≡ firstWide (samplesOf (now (kinds .entry)) (now (bits .entry))) ⌝ }
+    ensures { λ r. ⌜ r ≡ firstWide (pairedSamples (now (kinds .entry)) (now (bits .entry))) ⌝ }
 {
     let mut at = 0;
     while at < kinds.len() {
@@ -57,7 +57,7 @@ fn places_for(n: usize) -> usize
 
 pub(crate) fn record_for(kinds: &[u8], bits: &[u64]) -> Record
     requires { ⌜ length (now kinds) ≡ length (now bits) ⌝ }
-    ensures { λ r. ⌜ r ≡ recordFor (samplesOf (now (kinds .entry)) (now (bits .entry))) ⌝ }
+    ensures { λ r. ⌜ r ≡ recordFor (pairedSamples (now (kinds .entry)) (now (bits .entry))) ⌝ }
 {
     let end = places_for(kinds.len());
     let mut made = record::blank();

@@ -2,7 +2,7 @@
 ghost use mathlib.Core.Path.{_≡_};
 ghost use lib.ListN.{length};
 ghost use Rattle.value.specs.Outcome.{lentAfter};
-ghost use Rattle.silamogo.specs.Answer.{answerOf, orderedOf, measuredOf};
+ghost use Rattle.silamogo.specs.Answer.{answeredOf, orderedOf, measuredOf};
 ghost use Rattle.silamogo.specs.Records.{recordsOrder, keyLength, keyExit, successOf, recordBits, recordRead, readExit};
 ghost use Rattle.silamogo.specs.Inner.{recordedOutcome, Room};
 use crate::Answer;
@@ -68,7 +68,7 @@ pub extern "C" fn silamogo_key_write(kinds: &[u8], bits: &[u64], buffer: &mut [u
 // The bits of a record that was read, or the refusal.
 fn put_read(x: Recorded, bits: &mut [u64]) -> Answer
     requires { ⌜ Room (recordedOutcome x) (length (now bits)) ⌝ }
-    ensures answer { λ r. ⌜ r ≡ answerOf (successOf (recordedOutcome x)) ⌝ }
+    ensures answer { λ r. ⌜ r ≡ answeredOf (successOf (recordedOutcome x)) ⌝ }
     ensures exit { λ _. ⌜ now (bits .exit) ≡ lentAfter recordBits (recordedOutcome x) (now (bits .entry)) ⌝ }
 {
     let outcome = x.outcome;
@@ -87,7 +87,7 @@ fn put_read(x: Recorded, bits: &mut [u64]) -> Answer
 
 #[no_mangle]
 pub extern "C" fn silamogo_key_read(kinds: &[u8], key: &[u8], bits: &mut [u64]) -> Answer
-    ensures answer { λ r. ⌜ r ≡ answerOf (successOf (recordRead (now (kinds .entry)) (now (key .entry)) (length (now (bits .entry))))) ⌝ }
+    ensures answer { λ r. ⌜ r ≡ answeredOf (successOf (recordRead (now (kinds .entry)) (now (key .entry)) (length (now (bits .entry))))) ⌝ }
     ensures exit { λ _. ⌜ now (bits .exit) ≡ readExit (now (kinds .entry)) (now (key .entry)) (now (bits .entry)) ⌝ }
 {
     if any_unnamed(kinds) {
