@@ -15,8 +15,8 @@ use Rattle.choose.specs.Choose.{choiceRules, clampRules}
 use Rattle.convert.specs.Convert as convert
 use Rattle.convert.specs.Convert.{convertRules, convertedTo}
 use Rattle.key.specs.Key.{writeRules, writeOf, readRules, readOf}
-use Rattle.record.specs.Record.{recordRules}
-use Rattle.record.specs.Record as «record»
+use Rattle.lexical.specs.Lexical.{recordRules}
+use Rattle.lexical.specs.Lexical as lexical
 use Rattle.silamogo.specs.Samples.{kindFor, valueFor}
 use Rattle.silamogo.specs.Single.{twoRules, compareOf, totalOf, minOf, maxOf, threeRules, clampOf, kindRules, convertOf, classifyOf, samplePosition}
 use Rattle.silamogo.specs.Records.{pairedSamples, recordFor, shapeFor, twoRecordsRules, fieldRules, roomRules}
@@ -35,7 +35,7 @@ by-migrate from to input = by-same (leftRules from input ++ eachOf (λ v. conver
 
 pub at-the-boundary : AtTheBoundary
 unfolding classifyOf samplePosition compareOf totalOf minOf maxOf clampOf convertOf recordsOrder keyLength recordRead keyExit
-    readExit cmp.compareOf cmp.totalOf choose.minOf choose.maxOf choose.clampOf convert.convertOf «record».compareOf writeOf readOf
+    readExit cmp.compareOf cmp.totalOf choose.minOf choose.maxOf choose.clampOf convert.convertOf lexical.compareOf writeOf readOf
 at-the-boundary = record {
   classify = λ s. by-chain _ _;
   position = λ s. by-chain _ _;

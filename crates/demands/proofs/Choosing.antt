@@ -22,9 +22,10 @@ use Rattle.cmp.proofs.Numbers.{patterns-order}
 use Rattle.record.specs.declared.Field.{Field}
 use Rattle.record.specs.declared.Record.{Record}
 use Rattle.float.specs.Order.{orElse}
-use Rattle.record.specs.Record.{fieldsOf, lexicalOf}
-use Rattle.record.specs.Record as «record»
-use Rattle.record.proofs.Given.{records-compared}
+use Rattle.record.specs.Record.{fieldsOf}
+use Rattle.lexical.specs.Lexical.{lexicalOf}
+use Rattle.lexical.specs.Lexical as lexical
+use Rattle.lexical.proofs.Given.{records-compared}
 use Rattle.row.specs.Convert.{floatOf}
 use Rattle.row.proofs.F32Sample.{same-pattern}
 use Rattle.laws_cmp.specs.Laws.{OneShape, AllEqual}
@@ -54,12 +55,12 @@ first-decides (u ∷ xs) (v ∷ ys) xs' ys' x y l e d =
     let shorter : length xs ≡ length ys = cc in
     ap (λ o. orElse o (lexicalOf (xs ++ (x ∷ xs')) (ys ++ (y ∷ ys')))) (e .0) ∙ first-decides xs ys xs' ys' x y shorter (e .1) d
 
-one-shape : (a b : Record) → OneShape a b → (o : Order) → lexicalOf (fieldsOf a) (fieldsOf b) ≡ o → «record».compareOf a b ≡ gives o
+one-shape : (a b : Record) → OneShape a b → (o : Order) → lexicalOf (fieldsOf a) (fieldsOf b) ≡ o → lexical.compareOf a b ≡ gives o
 one-shape a b s o = records-compared a b o (s .0) (s .1) (s .2)
 
 unused-places : (a b a' b' : Record) → a .count ≡ a' .count → b .count ≡ b' .count → fieldsOf a ≡ fieldsOf a' → fieldsOf b ≡ fieldsOf b'
-    → «record».compareOf a b ≡ «record».compareOf a' b'
-unfolding «record».compareOf
+    → lexical.compareOf a b ≡ lexical.compareOf a' b'
+unfolding lexical.compareOf
 unused-places a b a' b' m n h k = cc
 
 pub of-records : Records

@@ -23,7 +23,7 @@ use Rattle.row.specs.Row.{sampleThen, rowAnswer}
 use Rattle.row.specs.Convert.{floatOf, u8ToU16, u16ToU8, u16ToF32, f32ToU16, lengthRules, convertAnswer, convertExit}
 use Rattle.row.specs.Clamp.{clampAnswer, clampExit}
 use Rattle.record.specs.Record.{setOf, getOf, pushOf, shapeOf}
-use Rattle.record.specs.Record as «record»
+use Rattle.lexical.specs.Lexical as lexical
 use Rattle.key.specs.Key.{writeOf, writeExit, readOf}
 use Rattle.demands.specs.Demand1.{rowRules, rowClampRules, ByItsRules, InOrder, Unchanged, Demand1}
 
@@ -77,8 +77,8 @@ by-row-clamp range row = by-same (rowClampRules range row) done (go (not (isLess
 -- ---- all calls
 
 by-its-rules : ByItsRules
-unfolding compareOf totalOf minOf maxOf clampOf rangeOf sampleOf convertOf u8ToU16 u16ToU8 u16ToF32 f32ToU16 «record».compareOf
-    «record».minOf «record».maxOf setOf getOf pushOf shapeOf writeOf readOf
+unfolding compareOf totalOf minOf maxOf clampOf rangeOf sampleOf convertOf u8ToU16 u16ToU8 u16ToF32 f32ToU16 lexical.compareOf
+    lexical.minOf lexical.maxOf setOf getOf pushOf shapeOf writeOf readOf
 by-its-rules = record {
   compare = λ a b. by-chain _ _;
   eq = λ a b. by-mapped isEqual _ _;

@@ -9,15 +9,15 @@ use Rattle.choose.specs.Choose.{clampOf}
 use Rattle.choose.specs.Inner.{clampedBy}
 use Rattle.convert.specs.Convert.{encodeOf, heldIn, madeIn, convertOf}
 use Rattle.convert.specs.Inner.{intoOf}
-use Rattle.record.specs.Record.{lexicalOf, shapesDiffer}
-use Rattle.record.specs.Record as «record»
+use Rattle.lexical.specs.Lexical.{lexicalOf, shapesDiffer}
+use Rattle.lexical.specs.Lexical as lexical
 use Rattle.bytewise.specs.Numbers.{bigEndian, fromBigEndian}
 use Rattle.key.specs.Key.{keyOf, writeOf, writeExit, bytesIn, keyNumbers, readOf}
 use Rattle.value.specs.Rules.{eachOf}
 use Rattle.demands.specs.Marked.{answerTo, marked, AllAnswered}
 
 pub all-answered : AllAnswered marked
-unfolding answerTo marked classOf scaledOf compareOf totalOf convertOf intoOf madeIn heldIn encodeOf clampOf clampedBy «record».compareOf lexicalOf shapesDiffer
+unfolding answerTo marked classOf scaledOf compareOf totalOf convertOf intoOf madeIn heldIn encodeOf clampOf clampedBy lexical.compareOf lexicalOf shapesDiffer
     writeOf writeExit eachOf keyOf bigEndian readOf keyNumbers bytesIn fromBigEndian
     unit stepOf floatBits patternOf magOf absOf positionOf toBits ofBits ofFields odd size span climb isNan
 all-answered = refl

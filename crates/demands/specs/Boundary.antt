@@ -11,7 +11,7 @@ use Rattle.value.specs.Rules.{By, eachOf}
 use Rattle.cmp.specs.Compare.{valueRules}
 use Rattle.choose.specs.Choose.{choiceRules, clampRules}
 use Rattle.convert.specs.Convert.{convertRules}
-use Rattle.record.specs.Record.{recordRules}
+use Rattle.lexical.specs.Lexical.{recordRules}
 use Rattle.key.specs.Key.{writeRules, readRules}
 use Rattle.silamogo.specs.declared.Sample.{Sample}
 use Rattle.silamogo.specs.Samples.{kindFor, valueFor}

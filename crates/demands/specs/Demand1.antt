@@ -23,8 +23,9 @@ use Rattle.row.specs.Clamp.{clampAnswer, clampExit}
 use Rattle.record.specs.declared.Field.{Field}
 use Rattle.record.specs.declared.Record.{Record}
 use Rattle.record.specs.declared.Shape.{Shape}
-use Rattle.record.specs.Record.{fieldsOf, kindsIn, recordRules, placeRules, setOf, getOf, pushOf, countRules, shapeOf}
-use Rattle.record.specs.Record as «record»
+use Rattle.record.specs.Record.{fieldsOf, kindsIn, placeRules, setOf, getOf, pushOf, countRules, shapeOf}
+use Rattle.lexical.specs.Lexical.{recordRules}
+use Rattle.lexical.specs.Lexical as lexical
 use Rattle.key.specs.Key.{nanRules, writeRules, writeOf, writeExit, keyNumbers, canonicalRules, readRules, readOf}
 
 -- ---- rows: their own rule, then those of each sample, the lowest index deciding
@@ -60,9 +61,9 @@ pub record ByItsRules : Type 0 where
   pub u16-to-f32 : (src : List ℕ) (dst : List Float) → By (rowRules (λ n. convertRules (U16 n) kind.F32) src dst) (convertAnswer u16ToF32 src dst)
   pub f32-to-u16 : (src : List Float) (dst : List ℕ) → By (rowRules (λ x. convertRules (F32 x 0) kind.U16) src dst) (convertAnswer f32ToU16 src dst)
   pub row-clamp : (range : Range) (row : List Float) → By (rowClampRules range row) (clampAnswer range row)
-  pub compare-records : (a b : Record) → By (recordRules a b) («record».compareOf a b)
-  pub min-record : (a b : Record) → By («record».choiceRules a b) («record».minOf a b)
-  pub max-record : (a b : Record) → By («record».choiceRules a b) («record».maxOf a b)
+  pub compare-records : (a b : Record) → By (recordRules a b) (lexical.compareOf a b)
+  pub min-record : (a b : Record) → By (lexical.choiceRules a b) (lexical.minOf a b)
+  pub max-record : (a b : Record) → By (lexical.choiceRules a b) (lexical.maxOf a b)
   pub set-field : (r : Record) (at : ℕ) (v : Value) → By (placeRules at) (setOf r at v)
   pub get-field : (r : Record) (at : ℕ) → By (placeRules at) (getOf r at)
   pub push-field : (r : Record) (v : Value) → By (placeRules (r .count)) (pushOf r v)
@@ -87,7 +88,7 @@ pub record InOrder : Type 0 where
   pub convert : (form : Form) (x : Exact) → numbersOf (intoRules form x) ≡ 1 ∷ 2 ∷ 3 ∷ 4 ∷ 5 ∷ []
   pub row : (src dst : List ℕ) → numbersOf (lengthRules src dst) ≡ 9 ∷ []
   pub compare-records : (a b : Record) → numbersOf (recordRules a b) ≡ 11 ∷ 7 ∷ []
-  pub min-max-records : (a b : Record) → numbersOf («record».choiceRules a b) ≡ 11 ∷ 7 ∷ 8 ∷ []
+  pub min-max-records : (a b : Record) → numbersOf (lexical.choiceRules a b) ≡ 11 ∷ 7 ∷ 8 ∷ []
   pub place : (at : ℕ) → numbersOf (placeRules at) ≡ 11 ∷ []
   pub write-key : (r : Record) (room : ℕ) → numbersOf (writeRules r room) ≡ 11 ∷ 10 ∷ numbersOf (nanRules 0 (fieldsOf r))
   pub read-key : (s : Shape) (key : List ℕ) → numbersOf (readRules s key) ≡ 11 ∷ 9 ∷ numbersOf (canonicalRules 0 (keyNumbers (kindsIn s) key))

@@ -29,7 +29,7 @@ use Rattle.convert.specs.Convert.{convertOf}
 use Rattle.record.specs.declared.Field.{Field}
 use Rattle.record.specs.declared.Record.{Record}
 use Rattle.record.specs.Record.{fieldsOf}
-use Rattle.record.specs.Record as «record»
+use Rattle.lexical.specs.Lexical as lexical
 use Rattle.row.specs.Convert.{floatOf}
 use Rattle.laws_cmp.specs.Laws.{PartialOrder, LinearOrder, OneKind, OneIntegerKind, OneShape, OneIntegerShape, SameFields, AllEqual}
 
@@ -102,12 +102,12 @@ pub record Records : Type 0 where
   -- the first field that is not Equal decides, Unordered included; those behind it are not looked at
   pub first-decides : (a b : Record) → OneShape a b → (xs ys xs' ys' : List Field) (x y : Field) → fieldsOf a ≡ xs ++ (x ∷ xs') → fieldsOf b ≡ ys ++ (y ∷ ys')
       → length xs ≡ length ys → AllEqual xs ys → (valueOrder (x .value) (y .value) ≡ Equal → ⊥)
-      → «record».compareOf a b ≡ gives (valueOrder (x .value) (y .value))
-  pub all-equal : (a b : Record) → OneShape a b → AllEqual (fieldsOf a) (fieldsOf b) → «record».compareOf a b ≡ gives Equal
+      → lexical.compareOf a b ≡ gives (valueOrder (x .value) (y .value))
+  pub all-equal : (a b : Record) → OneShape a b → AllEqual (fieldsOf a) (fieldsOf b) → lexical.compareOf a b ≡ gives Equal
   -- places past the count are never looked at
   pub unused-places : (a b a' b' : Record) → a .count ≡ a' .count → b .count ≡ b' .count → fieldsOf a ≡ fieldsOf a' → fieldsOf b ≡ fieldsOf b'
-      → «record».compareOf a b ≡ «record».compareOf a' b'
-  pub integer-order : LinearOrder «record».compareOf OneIntegerShape SameFields
+      → lexical.compareOf a b ≡ lexical.compareOf a' b'
+  pub integer-order : LinearOrder lexical.compareOf OneIntegerShape SameFields
 
 -- ---- ".. and samples are chosen and clamped, as the rules say"
 
@@ -128,7 +128,7 @@ pub record Clamps (v lower upper : Value) (low high : Order) : Type 0 where
 
 pub record Choosing : Type 0 where
   pub values : Chooses compareOf minOf maxOf
-  pub records : Chooses «record».compareOf «record».minOf «record».maxOf
+  pub records : Chooses lexical.compareOf lexical.minOf lexical.maxOf
   pub clamps : (v lower upper : Value) (bounds low high : Order) → compareOf lower upper ≡ gives bounds
       → compareOf v lower ≡ gives low → compareOf v upper ≡ gives high
       → isLessOrEqual bounds ≡ true → isUnordered low ≡ false → Clamps v lower upper low high

@@ -9,7 +9,7 @@ use Rattle.float.specs.Order.{orderN}
 use Rattle.value.specs.Outcome.{gives}
 use Rattle.record.specs.declared.Record.{Record}
 use Rattle.record.specs.declared.Shape.{Shape}
-use Rattle.record.specs.Record.{compareOf}
+use Rattle.lexical.specs.Lexical.{compareOf}
 use Rattle.key.specs.Key.{writeOf, writeExit, readOf}
 use Rattle.bytewise.specs.Numbers.{Bytes}
 use Rattle.key.specs.Keyed.{Usable, OfShape, recordKey, normalRecord}

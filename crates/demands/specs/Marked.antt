@@ -20,7 +20,7 @@ use Rattle.choose.specs.Choose.{clampOf}
 use Rattle.convert.specs.Convert.{convertOf}
 use Rattle.record.specs.declared.Record.{Record}
 use Rattle.record.specs.Record.{fieldFor, recordOf, shapeFor}
-use Rattle.record.specs.Record as «record»
+use Rattle.lexical.specs.Lexical as lexical
 use Rattle.key.specs.Key.{writeOf, writeExit, readOf}
 
 -- ---- what can be asked, and what can be answered
@@ -55,7 +55,7 @@ answerTo (compare a b) = an-order (compareOf a b)
 answerTo (total-order a b) = an-order (totalOf a b)
 answerTo (convert v to) = a-value (convertOf v to)
 answerTo (clamp v lower upper) = a-value (clampOf v lower upper)
-answerTo (compare-records xs ys) = an-order («record».compareOf (recordFor xs) (recordFor ys))
+answerTo (compare-records xs ys) = an-order (lexical.compareOf (recordFor xs) (recordFor ys))
 answerTo (write-key vs room) = a-key (writeOf (recordFor vs) room) (writeExit (recordFor vs) (replicate room 0))
 answerTo (read-key ks key) = a-record (readOf (shapeFor ks) key)
 

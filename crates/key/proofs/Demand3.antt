@@ -22,8 +22,9 @@ use Rattle.record.specs.declared.Field.{Field}
 use Rattle.record.specs.declared.Place.{Place}
 use Rattle.record.specs.declared.Record.{Record}
 use Rattle.record.specs.declared.Shape.{Shape}
-use Rattle.record.specs.Record.{fieldFor, fieldsOf, badCount, lexicalOf, compareOf, kindsIn, kindsOf, recordOf}
-use Rattle.record.proofs.Given.{kinds-shape}
+use Rattle.record.specs.Record.{fieldFor, fieldsOf, badCount, kindsIn, kindsOf, recordOf}
+use Rattle.lexical.specs.Lexical.{lexicalOf, compareOf}
+use Rattle.lexical.proofs.Given.{kinds-shape}
 use Rattle.key.specs.Key.{keyOf, nanRules, writeOf, writeExit, bytesIn, readOf}
 use Rattle.key.specs.Inner.{readFields}
 use Rattle.bytewise.specs.Order.{bytesOrder}

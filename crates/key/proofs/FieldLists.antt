@@ -21,7 +21,8 @@ use Rattle.value.proofs.Outcomes.{refuse-passes}
 use Rattle.cmp.specs.Compare.{valueOrder}
 use Rattle.record.specs.declared.Field.{Field}
 use Rattle.float.specs.Order.{orElse}
-use Rattle.record.specs.Record.{fieldFor, lexicalOf, kindsOf}
+use Rattle.record.specs.Record.{fieldFor, kindsOf}
+use Rattle.lexical.specs.Lexical.{lexicalOf}
 use Rattle.bytewise.specs.Numbers.{bigEndian, fromBigEndian}
 use Rattle.key.specs.Key.{keyNumber, fieldKey, keyOf, bitsFrom, notCanonical, bytesIn}
 use Rattle.key.specs.Inner.{readFields}

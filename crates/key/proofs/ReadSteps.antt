@@ -24,7 +24,7 @@ use Rattle.record.specs.declared.Record.{Record}
 use Rattle.record.specs.declared.Recorded.{Recorded}
 use Rattle.record.specs.declared.Shape.{Shape}
 use Rattle.record.specs.Record.{fieldFor, blank, badCount, kindsIn, recordOf, recordedOf}
-use Rattle.record.proofs.Deciding.{good-count}
+use Rattle.record.proofs.Twelve.{good-count}
 use Rattle.record.proofs.Shape as shape-type
 use Rattle.key.specs.declared.Weights.{Weights}
 use Rattle.bytewise.specs.Numbers.{fromBigEndian}

@@ -15,7 +15,8 @@ use Rattle.cmp.specs.Compare.{valueOrder}
 use Rattle.cmp.proofs.Given.{compared-order, order-compared}
 use Rattle.record.specs.declared.Field.{Field}
 use Rattle.float.specs.Order.{orElse}
-use Rattle.record.specs.Record.{fieldFor, kindsOf, lexicalOf}
+use Rattle.record.specs.Record.{fieldFor, kindsOf}
+use Rattle.lexical.specs.Lexical.{lexicalOf}
 use Rattle.laws_cmp.specs.Laws.{AllIntegers, AllEqual, OneIntegerKind}
 use Rattle.laws_cmp.proofs.Integers.{integers-linear-order}
 

@@ -5,8 +5,9 @@ use Rattle.float.specs.declared.Order.the-variants.{Less, Equal, Greater, Unord
 use Rattle.value.specs.Outcome.{gives, refuses}
 use Rattle.cmp.specs.Inner.{chosenBy}
 use Rattle.record.specs.declared.Record.{Record}
-use Rattle.record.specs.Record.{fieldsOf, decidingOf, compareOf, minOf, maxOf}
-use Rattle.record.proofs.Given.{kinds-shape, compared-records}
+use Rattle.record.specs.Record.{fieldsOf}
+use Rattle.lexical.specs.Lexical.{decidingOf, compareOf, minOf, maxOf}
+use Rattle.lexical.proofs.Given.{kinds-shape, compared-records}
 
 module _ (a b : Record) where
   min-at : (o : Order) → compareOf a b ≡ gives o → minOf a b ≡ chosenBy (decidingOf (fieldsOf a) (fieldsOf b)) a b o

@@ -10,8 +10,9 @@ use Rattle.float.proofs.Turned.{turned}
 use Rattle.value.specs.declared.Value.the-variants.{U8}
 use Rattle.value.specs.Outcome.{Outcome, gives, mapped}
 use Rattle.record.specs.declared.Record.{Record}
-use Rattle.record.specs.Record.{fieldFor, fieldsOf, recordOf, lexicalOf, compareOf}
-use Rattle.record.proofs.Given.{compared-records, records-compared}
+use Rattle.record.specs.Record.{fieldFor, fieldsOf, recordOf}
+use Rattle.lexical.specs.Lexical.{lexicalOf, compareOf}
+use Rattle.lexical.proofs.Given.{compared-records, records-compared}
 use Rattle.laws_cmp.specs.Laws.{PartialOrder, LinearOrder, Ordered, OneIntegerShape, SameFields}
 use Rattle.laws_cmp.proofs.Comparison.{equal-tested, tested-equal}
 use Rattle.laws_cmp.proofs.Fields.{turned-fields, fields-less-trans, fields-equal-trans, fields-ordered, fields-equal, equal-fields}

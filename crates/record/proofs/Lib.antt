@@ -1,8 +1,3 @@
-pub mod Steps
-pub mod OneKind
-pub mod Deciding
-pub mod OneShape
+pub mod Twelve
 pub mod Shaping
 pub mod Determined
-pub mod Given
-pub mod Outside

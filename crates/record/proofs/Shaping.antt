@@ -15,7 +15,7 @@ use Rattle.record.specs.declared.Place.{Place}
 use Rattle.record.specs.declared.Record.{Record}
 use Rattle.record.specs.declared.Shape.{Shape}
 use Rattle.record.specs.Record.{fieldFor, fieldsOf, valueAt, placeFor, kindsOf, shapeFor}
-use Rattle.record.proofs.Steps.{Twelve, twelve}
+use Rattle.record.proofs.Twelve.{Twelve, twelve}
 
 abbrev pub placesFrom : ℕ → List Kind → List Place
 placesFrom at ks = map placeFor ks ++ replicate (12 - at) (placeFor kind.U8)

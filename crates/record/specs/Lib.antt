@@ -1,5 +1,3 @@
 -- The definitions of this crate, in the order to read them.
--- records and shapes: made, read, compared, and chosen between
+-- records and shapes: made, set, read
 pub mod Record
--- what private functions compute
-pub mod Inner

@@ -1,13 +1,8 @@
-// Records of up to twelve fields, each of its own kind: made, read, compared field by field, and the lower or the higher of two.
+// Records of up to twelve fields, each of its own kind: made, read, and their shape. Two are compared by the crate lexical.
 // A record is a count and twelve places; places past the count are never looked at (docs/RULES.md: Records).
-mod choices;
-mod comparisons;
 mod makings;
 mod shapes;
 
-pub use choices::max;
-pub use choices::min;
-pub use comparisons::compare;
 pub use makings::blank;
 pub use makings::get;
 pub use makings::push;

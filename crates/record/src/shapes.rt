@@ -1,9 +1,7 @@
 // Counts and shapes of records. RULES.md: Records.
 ghost use mathlib.Core.Path.{_≡_};
-ghost use mathlib.Core.Bool.{_||_};
-ghost use Prim.Native.Nat.{_≤_, _<_};
-ghost use Rattle.value.specs.Kinds.{kindOf, kindNumber};
-ghost use Rattle.record.specs.Record.{fieldsOf, valueAt, badCount, shapesDiffer, kindsOf, blankShape, shapeFor, shapedOf, shapeOf};
+ghost use Prim.Native.Nat.{_≤_};
+ghost use Rattle.record.specs.Record.{fieldsOf, badCount, kindsOf, blankShape, shapeFor, shapedOf, shapeOf};
 use crate::Made;
 use crate::Place;
 use crate::Record;
@@ -18,38 +16,6 @@ pub fn bad_count(n: usize) -> bool
     ensures { λ r. ⌜ r ≡ badCount n ⌝ }
 {
     n == 0 || 12 < n
-}
-
-pub(crate) fn bad_counts(n: usize, m: usize) -> bool
-    ensures { λ r. ⌜ r ≡ (badCount n || badCount m) ⌝ }
-{
-    bad_count(n) || bad_count(m)
-}
-
-fn kind_number_at(r: Record, at: usize) -> u8
-    requires { ⌜ at < 12 ⌝ }
-    ensures { λ n. ⌜ n ≡ kindNumber (kindOf (valueAt (r .fields) at)) ⌝ }
-{
-    value::kind_number(value::kind_of(value_at(r, at)))
-}
-
-// Rule 7.
-pub(crate) fn shapes_differ(a: Record, b: Record) -> bool
-    requires { ⌜ (a .count ≤ 12) × (b .count ≤ 12) ⌝ }
-    ensures { λ r. ⌜ r ≡ shapesDiffer (fieldsOf a) (fieldsOf b) ⌝ }
-{
-    let n = a.count;
-    if n != b.count {
-        return true;
-    }
-    let mut at = 0;
-    while at < n {
-        if kind_number_at(a, at) != kind_number_at(b, at) {
-            return true;
-        }
-        at += 1;
-    }
-    false
 }
 
 pub fn blank_shape() -> Shape

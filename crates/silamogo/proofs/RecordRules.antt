@@ -13,7 +13,8 @@ use Rattle.record.specs.declared.Record.{Record}
 use Rattle.record.specs.declared.Recorded.{Recorded}
 use Rattle.record.specs.declared.Shape.{Shape}
 use Rattle.record.specs.declared.Made.the-variants as made
-use Rattle.record.specs.Record.{compareOf, recordedOf}
+use Rattle.record.specs.Record.{recordedOf}
+use Rattle.lexical.specs.Lexical.{compareOf}
 use Rattle.float.proofs.Tests.{neither}
 use Rattle.key.specs.declared.Written.{Written}
 use Rattle.key.specs.Key.{writtenOutcome, writeOf, writeExit, readOf}

@@ -14,7 +14,8 @@ use Rattle.record.specs.declared.Field.{Field}
 use Rattle.record.specs.declared.Place.{Place}
 use Rattle.record.specs.declared.Record.{Record}
 use Rattle.record.specs.declared.Shape.{Shape}
-use Rattle.record.specs.Record.{fieldFor, fieldsOf, placeFor, compareOf}
+use Rattle.record.specs.Record.{fieldFor, fieldsOf, placeFor}
+use Rattle.lexical.specs.Lexical.{compareOf}
 use Rattle.key.specs.Key.{keyOf, writeOf, readOf}
 use Rattle.silamogo.specs.declared.Sample.{Sample}
 use Rattle.silamogo.specs.Samples.{anyUnnamed, kindFor, valueFor, wideRule}

@@ -44,7 +44,7 @@ pub extern "C" fn silamogo_record_compare(
     if j < b_kinds.len() {
         return order_refused(4, j);
     }
-    ordered_by(record::compare(record_for(a_kinds, a_bits), record_for(b_kinds, b_bits)))
+    ordered_by(lexical::compare(record_for(a_kinds, a_bits), record_for(b_kinds, b_bits)))
 }
 
 #[no_mangle]

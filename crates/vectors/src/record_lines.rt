@@ -29,7 +29,7 @@ pub(crate) fn record_compare_line(rest: &[u8]) -> Answer {
     }
     let a = two.one;
     let b = two.other;
-    compared(record::compare(a, b))
+    compared(lexical::compare(a, b))
 }
 
 // The lower of two records, or the higher.
@@ -41,9 +41,9 @@ pub(crate) fn record_choice_line(rest: &[u8], higher: bool) -> RecordAnswer {
     let a = two.one;
     let b = two.other;
     if higher {
-        return recorded(record::max(a, b));
+        return recorded(lexical::max(a, b));
     }
-    recorded(record::min(a, b))
+    recorded(lexical::min(a, b))
 }
 
 // A shape and a key.

@@ -1,6 +1,6 @@
 -- Each way out is one law of what writing answers and leaves.
 use mathlib.Core.Path.{sym, _∙_}
-use Rattle.record.proofs.Deciding.{good-count}
+use Rattle.record.proofs.Twelve.{good-count}
 use Rattle.key.proofs.WriteSteps.{write-bad-count, write-short, write-nan, write-done}
 use borrow.Author.Needs.{needs}
 use Rattle.key.proofs.writing.write.Statement.{statement}

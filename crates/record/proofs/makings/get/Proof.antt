@@ -2,7 +2,7 @@
 use mathlib.Core.Path.{sym, _∙_}
 use borrow.Author.Needs.{needs}
 use Rattle.record.specs.Record.{getOf}
-use Rattle.record.proofs.Outside.{is-inside}
+use Rattle.record.proofs.Twelve.{is-inside}
 use Rattle.record.proofs.makings.get.Statement.{statement}
 use Rattle.record.proofs.makings.get.Tie as tie
 

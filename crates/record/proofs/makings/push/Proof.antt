@@ -4,7 +4,7 @@ use native.Mathlib.Numerals.{add-one}
 use native.Mathlib.Omega.{arith}
 use borrow.Author.Needs.{needs}
 use Rattle.record.specs.Record.{pushOf}
-use Rattle.record.proofs.Outside.{is-inside}
+use Rattle.record.proofs.Twelve.{is-inside}
 use Rattle.record.proofs.makings.push.Statement.{statement}
 use Rattle.record.proofs.makings.push.Tie as tie
 

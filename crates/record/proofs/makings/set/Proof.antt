@@ -3,7 +3,7 @@ use mathlib.Core.Path.{sym, _∙_}
 use native.Mathlib.Omega.{arith}
 use borrow.Author.Needs.{needs}
 use Rattle.record.specs.Record.{setOf}
-use Rattle.record.proofs.Outside.{is-inside}
+use Rattle.record.proofs.Twelve.{is-inside}
 use Rattle.record.proofs.makings.set.Statement.{statement}
 use Rattle.record.proofs.makings.set.Tie as tie
 

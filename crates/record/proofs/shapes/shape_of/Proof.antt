@@ -2,7 +2,7 @@
 use mathlib.Core.Path.{sym, _∙_}
 use borrow.Author.Needs.{needs}
 use Rattle.record.specs.Record.{shapeOf}
-use Rattle.record.proofs.Deciding.{good-count}
+use Rattle.record.proofs.Twelve.{good-count}
 use Rattle.record.proofs.shapes.shape_of.Statement.{statement}
 use Rattle.record.proofs.shapes.shape_of.Tie as tie
 

@@ -3,7 +3,7 @@ use mathlib.Core.Path.{refl}
 use Prim.Native.Nat.{_-_}
 use native.Mathlib.Omega.{arith}
 use borrow.Author.Needs.{needs}
-use Rattle.record.proofs.Steps.{twelve}
+use Rattle.record.proofs.Twelve.{twelve}
 use Rattle.silamogo.proofs.Filling.{Written, written-more, written-all}
 use Rattle.silamogo.proofs.fields.put_bits.Statement.{statement}
 use Rattle.silamogo.proofs.fields.put_bits.Tie as tie
