@@ -21,7 +21,7 @@ use Rattle.choose.specs.Choose.{sampleOrder, minOf, maxOf, clampOf, rangeOf, sa
 use Rattle.convert.specs.Convert.{convertRules, convertedTo, convertOf}
 use Rattle.row.specs.Row.{sampleThen, rowAnswer}
 use Rattle.row.specs.Convert.{floatOf, u8ToU16, u16ToU8, u16ToF32, f32ToU16, lengthRules, convertAnswer, convertExit}
-use Rattle.row.specs.Clamp.{clampAnswer, clampExit}
+use Rattle.rowclamp.specs.Clamp.{clampAnswer, clampExit}
 use Rattle.record.specs.Record.{setOf, getOf, pushOf, shapeOf}
 use Rattle.lexical.specs.Lexical as lexical
 use Rattle.key.specs.Key.{writeOf, writeExit, readOf}

@@ -19,7 +19,7 @@ use Rattle.cmp.specs.ByOrder.{unordered}
 use Rattle.choose.specs.Choose.{sampleOrder, choiceRules, minOf, maxOf, clampRules, clampOf, boundsRules, rangeOf, sampleRules, sampleOf}
 use Rattle.convert.specs.Convert.{intoRules, convertRules, convertOf}
 use Rattle.row.specs.Convert.{u8ToU16, u16ToU8, u16ToF32, f32ToU16, lengthRules, convertAnswer, convertExit}
-use Rattle.row.specs.Clamp.{clampAnswer, clampExit}
+use Rattle.rowclamp.specs.Clamp.{clampAnswer, clampExit}
 use Rattle.record.specs.declared.Field.{Field}
 use Rattle.record.specs.declared.Record.{Record}
 use Rattle.record.specs.declared.Shape.{Shape}

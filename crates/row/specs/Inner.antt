@@ -1,15 +1,9 @@
 -- Nothing in this file has to be believed: it says what private functions compute, and no public contract or theorem reaches it.
-use mathlib.Core.Bool.{Bool, cond, not, _&&_}
-use lib.Ieee.{Float, lt, ne, binary32, ofBits, ofInt, toUnsigned, add, sub, eq, le}
+use mathlib.Core.Bool.{Bool, not, _&&_}
+use lib.Ieee.{Float, binary32, ofBits, ofInt, toUnsigned, add, sub, eq, le}
 use Prim.Native.Nat.{ℕ}
 use lib.Dec.{ltb}
 use lib.IntN.{pos}
-
-abbrev pub isNotSelf : Float → Bool
-isNotSelf x = ne x x
-
-abbrev pub clampedFloat : Float → Float → Float → Float
-clampedFloat lower upper x = cond (lt x lower) lower (cond (lt upper x) upper x)
 
 -- a u16 that no u8 has the number of
 abbrev pub isWide : ℕ → Bool
@@ -29,7 +23,7 @@ lastU16 = ofBits binary32 0x477f_ff00
 abbrev pub shift : Float
 shift = ofBits binary32 0x4b00_0000
 
--- for a float from 0 up to 2^23: clampedFloat 2^23 and 2^24 there are only whole numbers, so a fraction is lost on the way
+-- for a float from 0 up to 2^23: between 2^23 and 2^24 there are only whole numbers, so a fraction is lost on the way
 abbrev pub isWhole : Float → Bool
 isWhole x = eq (sub binary32 (add binary32 x shift) shift) x
 

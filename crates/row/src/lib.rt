@@ -1,12 +1,10 @@
-// Rows of samples that the caller lends. A row is refused whole, with the lowest index deciding, or done whole:
-// a pass that only looks comes before the pass that writes (docs/RULES.md: Rows, Choosing and clamping).
-mod clamping;
+// Rows of samples that the caller lends, converted into a second row. A row is refused whole, with the lowest index deciding, or done whole:
+// a pass that only looks comes before the pass that writes (docs/RULES.md: Rows). A row is clamped by the crate rowclamp.
 mod floating;
 mod narrowing;
 mod wholes;
 mod widening;
 
-pub use clamping::clamp;
 pub use floating::u16_to_f32;
 pub use narrowing::u16_to_u8;
 use value::Refusal;

@@ -1,7 +1,7 @@
 // Rows of samples.
 ghost use mathlib.Core.Path.{_≡_};
 ghost use Rattle.row.specs.Row.{rowedOutcome};
-ghost use Rattle.row.specs.Clamp.{clampAnswer, clampExit};
+ghost use Rattle.rowclamp.specs.Clamp.{clampAnswer, clampExit};
 ghost use Rattle.row.specs.Convert.{u8ToU16, u16ToU8, u16ToF32, f32ToU16, convertAnswer, convertExit};
 ghost use Rattle.silamogo.specs.Answer.{answeredOf, boundsOf};
 use crate::Answer;
@@ -27,7 +27,7 @@ pub extern "C" fn silamogo_row_clamp(row: &mut [f32], lower: f32, upper: f32) ->
     ensures answer { λ r. ⌜ r ≡ answeredOf (clampAnswer (boundsOf lower upper) (now (row .entry))) ⌝ }
     ensures exit { λ _. ⌜ now (row .exit) ≡ clampExit (boundsOf lower upper) (now (row .entry)) ⌝ }
 {
-    answer(row::clamp(row, Range { lower, upper }))
+    answer(rowclamp::clamp(row, Range { lower, upper }))
 }
 
 #[no_mangle]

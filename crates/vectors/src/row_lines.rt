@@ -68,7 +68,7 @@ pub(crate) fn row_clamp_line(
 fn clamped(row: &mut [f32], count: usize, range: Range) -> Answer
     requires { ⌜ count ≤ length (now row) ⌝ }
 {
-    rowed(row::clamp(&mut row[..count], range))
+    rowed(rowclamp::clamp(&mut row[..count], range))
 }
 
 fn bound_in(s: &[u8]) -> Bound {

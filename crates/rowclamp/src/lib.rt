@@ -1,13 +1,14 @@
-// The clamp of a row in place. RULES.md: Choosing and clamping.
+// The clamp of a row that the caller lends, in place: refused whole, with the lowest index deciding, or done whole
+// (docs/RULES.md: Choosing and clamping).
 ghost use mathlib.Core.Path.{_≡_};
 ghost use mathlib.Core.List.{map};
 ghost use Prim.Native.Nat.{_+_, _≤_};
 ghost use lib.ListN.{length, drop};
 ghost use Rattle.row.specs.Row.{rowedOutcome, first, any};
-ghost use Rattle.row.specs.Clamp.{clampAnswer, clampExit};
-ghost use Rattle.row.specs.Inner.{isNotSelf, clampedFloat};
-use crate::Rowed;
+ghost use Rattle.rowclamp.specs.Clamp.{clampAnswer, clampExit};
+ghost use Rattle.rowclamp.specs.Inner.{isNotSelf, clampedFloat};
 use choose::Range;
+use row::Rowed;
 use value::Refusal;
 
 // Whether a sample is a NaN. Every sample is looked at, so that the loop is compiled to vector code.

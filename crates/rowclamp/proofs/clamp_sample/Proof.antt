@@ -1,6 +1,6 @@
 -- Each arm is the case that its tests pick.
-use Rattle.row.proofs.clamping.clamp_sample.Statement.{statement}
-use Rattle.row.proofs.clamping.clamp_sample.Tie as tie
+use Rattle.rowclamp.proofs.clamp_sample.Statement.{statement}
+use Rattle.rowclamp.proofs.clamp_sample.Tie as tie
 
 returns : tie.Need-returns
 returns c = simp (c .if1 .taken)

@@ -4,12 +4,12 @@ use mathlib.Core.Bool.{false}
 use Prim.Native.Nat.{ℕ, _+_, _-_, _≤_}
 use native.Mathlib.Omega.{arith}
 use lib.ListN.{length, take, drop}
 use Rattle.row.specs.Row.{first, any}
-use Rattle.row.specs.Inner.{isNotSelf}
+use Rattle.rowclamp.specs.Inner.{isNotSelf}
 use Rattle.row.proofs.Scan.{reach-block}
 use borrow.Author.Needs.{needs}
-use Rattle.row.proofs.clamping.first_nan.Statement.{statement}
-use Rattle.row.proofs.clamping.first_nan.Tie as tie
+use Rattle.rowclamp.proofs.first_nan.Statement.{statement}
+use Rattle.rowclamp.proofs.first_nan.Tie as tie
 
 abbrev Inv-loop : tie.InvT-loop
 Inv-loop row n i₀ i = (i ≤ n) × (n ≡ length row) × (first isNotSelf row ≡ i + first isNotSelf (drop i row))

@@ -5,12 +5,12 @@ use Prim.Native.Nat.{_-_, _≤_}
 use native.Mathlib.Omega.{arith}
 use lib.ListN.{length, getD, take}
 use lib.Ieee.{nan}
 use Rattle.row.specs.Row.{any}
-use Rattle.row.specs.Inner.{isNotSelf}
+use Rattle.rowclamp.specs.Inner.{isNotSelf}
 use Rattle.row.proofs.Scan.{none-yet, any-step, any-end}
 use borrow.Author.Needs.{needs}
-use Rattle.row.proofs.clamping.has_nan.Statement.{statement}
-use Rattle.row.proofs.clamping.has_nan.Tie as tie
+use Rattle.rowclamp.proofs.has_nan.Statement.{statement}
+use Rattle.rowclamp.proofs.has_nan.Tie as tie
 
 abbrev Inv-loop : tie.InvT-loop
 Inv-loop part found₀ i₀ found i = (i ≤ length part) × (found ≡ any isNotSelf (take i part))

@@ -12,11 +12,11 @@ use Rattle.value.specs.Outcome.{gives, refuses, done}
 use Rattle.choose.specs.declared.Range.{Range}
 use Rattle.choose.specs.Choose.{sampleOrder, sampleOf}
 use Rattle.choose.proofs.Samples.{sample-nan, sample-lower, sample-upper, sample-self}
 use Rattle.row.specs.Row.{first}
-use Rattle.row.specs.Clamp.{clampAnswer, clampExit}
-use Rattle.row.specs.Inner.{isNotSelf, clampedFloat}
+use Rattle.rowclamp.specs.Clamp.{clampAnswer, clampExit}
+use Rattle.rowclamp.specs.Inner.{isNotSelf, clampedFloat}
 use Rattle.row.proofs.Scan.{first-hit}
 use Rattle.row.proofs.Rows.{row-ruled, sample-refused, all-done}
 
 -- every sample is a float of its format, as all that a program holds are
 abbrev AllFit : List Float → Type 0

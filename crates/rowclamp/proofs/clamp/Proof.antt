@@ -2,9 +2,9 @@
 use borrow.Author.Needs.{needs}
 use lib.Dec.{T}
 use lib.Ieee.{binary32, fits}
-use Rattle.row.proofs.ClampRow.{clamp-row-bounds, clamp-row-refused, clamp-row-done}
-use Rattle.row.proofs.clamping.clamp.Statement.{statement}
-use Rattle.row.proofs.clamping.clamp.Tie as tie
+use Rattle.rowclamp.proofs.ClampRow.{clamp-row-bounds, clamp-row-refused, clamp-row-done}
+use Rattle.rowclamp.proofs.clamp.Statement.{statement}
+use Rattle.rowclamp.proofs.clamp.Tie as tie
 
 lower-fits : (c : tie.Start) → T (fits binary32 (c .args .range .lower))
 lower-fits c = search needs

@@ -4,11 +4,11 @@ use Prim.Native.Nat.{_-_, _<_}
 use native.Mathlib.Omega.{arith}
 use lib.ListN.{length}
 use lib.Ieee.{nan}
-use Rattle.row.specs.Inner.{clampedFloat}
+use Rattle.rowclamp.specs.Inner.{clampedFloat}
 use Rattle.row.proofs.Written.{Written, write-step, write-end, in-place}
 use borrow.Author.Needs.{needs}
-use Rattle.row.proofs.clamping.clamp_all.Statement.{statement}
-use Rattle.row.proofs.clamping.clamp_all.Tie as tie
+use Rattle.rowclamp.proofs.clamp_all.Statement.{statement}
+use Rattle.rowclamp.proofs.clamp_all.Tie as tie
 
 abbrev Inv-loop : tie.InvT-loop
 Inv-loop row₀ lower upper i₀ row i = Written (clampedFloat lower upper) row₀ row₀ row i

@@ -2,11 +2,11 @@
 use Prim.Native.Nat.{_-_}
 use lib.ListN.{length}
 use lib.Ieee.{nan}
-use Rattle.row.specs.Inner.{isNotSelf}
+use Rattle.rowclamp.specs.Inner.{isNotSelf}
 use Rattle.row.proofs.Scan.{Reached, reach-step, reach-stop, reach-end}
 use borrow.Author.Needs.{needs}
-use Rattle.row.proofs.clamping.first_nan_from.Statement.{statement}
-use Rattle.row.proofs.clamping.first_nan_from.Tie as tie
+use Rattle.rowclamp.proofs.first_nan_from.Statement.{statement}
+use Rattle.rowclamp.proofs.first_nan_from.Tie as tie
 
 abbrev Inv-loop : tie.InvT-loop
 Inv-loop row from i₀ i = Reached isNotSelf from row i
