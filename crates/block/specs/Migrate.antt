@@ -53,6 +53,7 @@ unfoldable pub stepAnswer : Kind → Kind → ℕ → Outcome Success → List �
 stepAnswer from to before answer src room =
     chain (stepRules from before src) (andThen answer (λ d. placedFrom before (blockAnswer from to src room)))
 
+-- the lent buffer at the end
 unfoldable pub stepExit : Kind → Kind → ℕ → Outcome Success → List ℕ → List ℕ → List ℕ
 stepExit from to before answer src old = lentAfter (λ d. outputOf from to src) (stepAnswer from to before answer src (length old)) old
 

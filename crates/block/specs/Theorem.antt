@@ -26,6 +26,7 @@ abbrev pub writtenBy : Outcome Success → List ℕ → List ℕ
 writtenBy (gives d) output = output
 writtenBy (refuses number place) output = []
 
+-- a block more
 abbrev pub stepped : Kind → Kind → ℕ → Reached → List ℕ → Reached
 stepped from to room r b = record {
   samples = stepSamples from (r .samples) b;
@@ -33,6 +34,7 @@ stepped from to room r b = record {
   output = r .output ++ writtenBy (stepAnswer from to (r .samples) (r .answer) b room) (outputOf from to b);
 }
 
+-- the blocks, one after the other
 abbrev pub runOf : Kind → Kind → ℕ → Reached → List (List ℕ) → Reached
 runOf from to room r [] = r
 runOf from to room r (b ∷ bs) = runOf from to room (stepped from to room r b) bs

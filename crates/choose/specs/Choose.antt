@@ -67,6 +67,7 @@ clampRules v lower upper =
 abbrev pub between : {A : Type 0} → Order → Order → A → A → A → A
 between low high x lower upper = cond (isLess low) lower (cond (isGreater high) upper x)
 
+-- the clamp of a value
 unfoldable pub clampOf : Value → Value → Value → Outcome Value
 clampOf v lower upper = chain (clampRules v lower upper) (gives (between (valueOrder v lower) (valueOrder v upper) v lower upper))
 
@@ -80,6 +81,7 @@ defaultRange = record { lower = ofBits binary32 0x0000_0000; upper = ofBits bina
 abbrev pub boundsRules : Float → Float → List Rule
 boundsRules lower upper = badBounds (sampleOrder lower upper) ∷ []
 
+-- the two bounds, as they were given
 unfoldable pub rangeOf : Float → Float → Outcome Range
 rangeOf lower upper = chain (boundsRules lower upper) (gives (record { lower = lower; upper = upper }))
 
@@ -87,8 +89,10 @@ rangeOf lower upper = chain (boundsRules lower upper) (gives (record { lower = l
 abbrev pub sampleRules : Range → Float → List Rule
 sampleRules range x = badBounds (sampleOrder (range .lower) (range .upper)) ∷ unordered 0 (sampleOrder x (range .lower)) ∷ []
 
+-- as a value is clamped
 abbrev pub sampleIn : Range → Float → Float
 sampleIn range x = between (sampleOrder x (range .lower)) (sampleOrder x (range .upper)) x (range .lower) (range .upper)
 
+-- one sample of f32, within a range
 unfoldable pub sampleOf : Range → Float → Outcome Float
 sampleOf range x = chain (sampleRules range x) (gives (sampleIn range x))

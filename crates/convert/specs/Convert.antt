@@ -56,11 +56,13 @@ abbrev pub outside : ℕ → ℕ → Bool → ℕ → Bool
 outside low high true n = ltb low n
 outside low high false n = ltb high n
 
+-- by the form: an integer kind's ends, or the largest float
 abbrev pub outOfForm : Form → Bool → ℕ → Bool
 outOfForm (unsigned k) s m = outside 0 (2 ^ k - 1) s (m / unit)
 outOfForm (signed k) s m = outside (2 ^ (k - 1)) (2 ^ (k - 1) - 1) s (m / unit)
 outOfForm (floating f) s m = ltb (largestOf (fractionOf f) (exponentOf f) * stepOf f) m
 
+-- only a finite number can lie outside
 abbrev pub outOfRange : Form → Exact → Bool
 outOfRange form notNumber = false
 outOfRange form (infinite s) = false
@@ -72,6 +74,7 @@ notHeldIn (unsigned k) m = false
 notHeldIn (signed k) m = false
 notHeldIn (floating f) m = not (heldIn f m)
 
+-- only a finite number can be missing
 abbrev pub notHeld : Form → Exact → Bool
 notHeld form notNumber = false
 notHeld form (infinite s) = false
@@ -89,22 +92,27 @@ signFor notNumber = false
 signFor (infinite s) = s
 signFor (finite s m) = s
 
+-- an integer's magnitude
 abbrev pub magnitudeFor : Exact → ℕ
 magnitudeFor notNumber = 0
 magnitudeFor (infinite s) = 0
 magnitudeFor (finite s m) = m / unit
 
+-- a float's abs
 abbrev pub absFor : Format → Exact → ℕ
 absFor f notNumber = 0
 absFor f (infinite s) = infOf (fractionOf f) (exponentOf f)
 absFor f (finite s m) = encodeOf f m
 
+-- the integer
 abbrev pub integerFor : Exact → ℤ
 integerFor x = signedOf (signFor x) (magnitudeFor x)
 
+-- the float's pattern
 abbrev pub patternFor : Format → Exact → ℕ
 patternFor f x = withSign f (signFor x) (absFor f x)
 
+-- the value itself
 unfoldable pub madeIn : Kind → Exact → Value
 madeIn kind.U8 x = U8 (magnitudeFor x)
 madeIn kind.U16 x = U16 (magnitudeFor x)
@@ -137,9 +145,11 @@ ownKind v to = eqb (kindNumber (kindOf v)) (kindNumber to)
 abbrev pub convertRules : Value → Kind → List Rule
 convertRules v to = cond (ownKind v to) [] (intoRules (formOf to) (exactOf v))
 
+-- what comes of a conversion that no rule refuses
 abbrev pub convertedTo : Value → Kind → Value
 convertedTo v to = cond (ownKind v to) v (madeIn to (exactOf v))
 
+-- the conversion of a value to a kind
 unfoldable pub convertOf : Value → Kind → Outcome Value
 convertOf v to = chain (convertRules v to) (gives (convertedTo v to))
 

@@ -23,6 +23,7 @@ use Rattle.sample.specs.Refusals.{leftRules, answerOf}
 
 -- ---- the demand
 
+-- every call of the boundary that can refuse by itself goes by its rules, and then by the library's
 pub record AtTheBoundary : Type 0 where
   pub classify : (s : Sample) → By (floatRules s) (classifyOf s)
   pub position : (s : Sample) → By (floatRules s) (samplePosition s)

@@ -95,6 +95,7 @@ pub record InOrder : Type 0 where
   pub each-nan : (at : ℕ) (f : Field) (fs : List Field) → numbersOf (nanRules at (f ∷ fs)) ≡ 1 ∷ numbersOf (nanRules (suc at) fs)
   pub each-canonical : (at : ℕ) (f : Kind × ℕ) (fs : List (Kind × ℕ)) → numbersOf (canonicalRules at (f ∷ fs)) ≡ 12 ∷ numbersOf (canonicalRules (suc at) fs)
 
+-- the demand: the orders, the refusals, and lent memory
 pub record Demand1 : Type 1 where
   pub in-order : InOrder
   pub by-its-rules : ByItsRules

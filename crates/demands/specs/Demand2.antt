@@ -35,6 +35,7 @@ use Rattle.laws_cmp.specs.Laws.{PartialOrder, LinearOrder, OneKind, OneIntegerK
 
 -- ---- "Classes, comparison and total order are IEEE 754-2019's", of each float format, by the patterns
 
+-- a format of p fraction and e exponent bits
 pub record Floats (p e : ℕ) : Type 0 where
   -- a pattern of each class stands for what the class says
   pub class-means : (b : ℕ) → ClassMeans p e b (classOf p e b)
@@ -59,6 +60,7 @@ pub record Floats (p e : ℕ) : Type 0 where
 abbrev pub OfForm : Form → Value → Type 0
 OfForm form v = formOf (kindOf v) ≡ form
 
+-- values of one kind
 pub record Values : Type 0 where
   -- floats of one kind by their bits
   pub floats-compare : (f : Format) (a b : Value) → OneKind a b → OfForm (floating f) a
@@ -76,6 +78,7 @@ pub record Values : Type 0 where
 
 -- ---- "Conversion between different kinds succeeds exactly when the target holds the same number"
 
+-- the kind is not the value's own
 abbrev pub Other : Value → Kind → Type 0
 Other v to = kindOf v ≡ to → ⊥
 
@@ -83,6 +86,7 @@ Other v to = kindOf v ≡ to → ⊥
 abbrev pub HoldsNumberOf : Value → Kind → Type 0
 HoldsNumberOf v to = (numberOf v ≡ none → ⊥) × ((b : ℕ) × (numberOf (valueOf to b) ≡ numberOf v))
 
+-- of every value and every kind
 pub record Conversion : Type 0 where
   pub exactly : (v : Value) (to : Kind) → Other v to → ((w : Value) × (convertOf v to ≡ gives w)) ↔ HoldsNumberOf v to
   pub same-number : (v : Value) (to : Kind) → Other v to → (w : Value) → convertOf v to ≡ gives w → (kindOf w ≡ to) × (numberOf w ≡ numberOf v)
@@ -98,6 +102,7 @@ pub record Conversion : Type 0 where
 
 -- ---- "Records compare .. as the rules say"
 
+-- of every two records
 pub record Records : Type 0 where
   -- the first field that is not Equal decides, Unordered included; those behind it are not looked at
   pub first-decides : (a b : Record) → OneShape a b → (xs ys xs' ys' : List Field) (x y : Field) → fieldsOf a ≡ xs ++ (x ∷ xs') → fieldsOf b ≡ ys ++ (y ∷ ys')
@@ -126,6 +131,7 @@ pub record Clamps (v lower upper : Value) (low high : Order) : Type 0 where
   pub above : isLess low ≡ false → isGreater high ≡ true → clampOf v lower upper ≡ gives upper
   pub within : isLess low ≡ false → isGreater high ≡ false → clampOf v lower upper ≡ gives v
 
+-- of values, of records, and of the samples of a range
 pub record Choosing : Type 0 where
   pub values : Chooses compareOf minOf maxOf
   pub records : Chooses lexical.compareOf lexical.minOf lexical.maxOf
@@ -135,6 +141,7 @@ pub record Choosing : Type 0 where
   -- a sample of a range, and so of a row, is clamped as the f32 value that holds it
   pub samples : (range : Range) (x : Float) (u v w : ℕ) → mapped floatOf (clampOf (F32 x u) (F32 (range .lower) v) (F32 (range .upper) w)) ≡ sampleOf range x
 
+-- the demand, sentence by sentence
 pub record Demand2 : Type 0 where
   pub floats : (f : Format) → Floats (fractionOf f) (exponentOf f)
   pub values : Values

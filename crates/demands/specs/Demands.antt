@@ -4,6 +4,7 @@ use Rattle.demands.specs.Boundary.{AtTheBoundary}
 use Rattle.demands.specs.Demand2.{Demand2}
 use Rattle.demands.specs.Demand3.{Demand3}
 
+-- what is proved of Silamogo as a whole
 pub record Demands : Type 1 where
   pub first : Demand1
   pub first-at-the-boundary : AtTheBoundary

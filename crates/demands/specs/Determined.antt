@@ -28,6 +28,7 @@ use Rattle.key.specs.Key.{writtenOutcome}
 abbrev pub OnlyOne : {R : Type 0} → (R → Type 0) → Type 0
 OnlyOne {R} contract = (r s : R) → contract r → contract s → r ≡ s
 
+-- no shape of contract leaves two answers
 pub record Determined : Type 1 where
   -- `r ≡ spec`: a number, a class, an order, a record beside its outcome, a lent row itself
   pub plain : {R : Type 0} (spec : R) → OnlyOne (λ (r : R). r ≡ spec)

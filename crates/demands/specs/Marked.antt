@@ -25,6 +25,7 @@ use Rattle.key.specs.Key.{writeOf, writeExit, readOf}
 
 -- ---- what can be asked, and what can be answered
 
+-- a call with its arguments
 pub data Question : Type 0 where
   class-f32 scaled-f32 : ℕ → Question
   compare total-order : Value → Value → Question
@@ -35,6 +36,7 @@ pub data Question : Type 0 where
   write-key : List Value → ℕ → Question
   read-key : List Kind → List ℕ → Question
 
+-- what the rules say to it
 pub data Answer : Type 0 where
   a-class : Class → Answer
   a-number : ℤ → Answer
@@ -44,6 +46,7 @@ pub data Answer : Type 0 where
   a-key : Outcome ℕ → List ℕ → Answer
   a-record : Outcome Record → Answer
 
+-- the record of these values
 abbrev pub recordFor : List Value → Record
 recordFor vs = recordOf (map fieldFor vs)
 
@@ -61,21 +64,27 @@ answerTo (read-key ks key) = a-record (readOf (shapeFor ks) key)
 
 -- ---- the list
 
+-- a case: its number, a question, and the answer owed
 pub data Case : Type 0 where
   case : ℕ → Question → Answer → Case
 
+-- the question
 abbrev pub asked : Case → Question
 asked (case number q a) = q
 
+-- the answer
 abbrev pub owed : Case → Answer
 owed (case number q a) = a
 
+-- a value of f32 by its bits
 abbrev f32 : ℕ → Value
 f32 b = f32Value b
 
+-- and one of f64
 abbrev f64 : ℕ → Value
 f64 b = f64Value b
 
+-- the fourteen cases, some with several questions
 unfoldable pub marked : List Case
 marked =
     case 1 (compare (f32 0x0000_0000) (f32 0x8000_0000)) (an-order (gives Equal))

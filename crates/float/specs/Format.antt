@@ -9,11 +9,12 @@ use Rattle.float.specs.declared.Class.{Class}
 use Rattle.float.specs.declared.Class.the-variants.{Zero, Subnormal, Normal, Infinite, Nan}
 use Rattle.float.specs.Number.{signedOf}
 
--- (p, e) of the language's two formats
+-- p of the language's two formats
 abbrev pub fractionOf : language.Format → ℕ
 fractionOf language.binary32 = 23
 fractionOf language.binary64 = 52
 
+-- e of the two
 abbrev pub exponentOf : language.Format → ℕ
 exponentOf language.binary32 = 8
 exponentOf language.binary64 = 11
@@ -52,6 +53,7 @@ classAt p e x =
     (cond (eqb x 0) Zero
     (cond (ltb x (2 ^ p)) Subnormal Normal)))
 
+-- the class of a pattern
 unfoldable pub classOf : ℕ → ℕ → ℕ → Class
 classOf p e b = classAt p e (absOf p e b)
 

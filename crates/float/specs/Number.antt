@@ -31,10 +31,12 @@ pub data Number : Type 0 where
   none minusInfinity plusInfinity : Number
   number : ℤ → Number
 
+-- by its sign
 abbrev pub infinityOf : Bool → Number
 infinityOf true = minusInfinity
 infinityOf false = plusInfinity
 
+-- what it is as a number
 abbrev pub numberOf : Exact → Number
 numberOf notNumber = none
 numberOf (infinite s) = infinityOf s

@@ -46,6 +46,7 @@ patternOf p e b =
     (cond (infiniteOf p e b) (infinite (negativeOf p e b))
     (finite (negativeOf p e b) (magOf p (absOf p e b))))
 
+-- two patterns compare as the numbers that they stand for
 unfoldable pub compareOf : ℕ → ℕ → ℕ → ℕ → Order
 compareOf p e a b = orderOf (numberOf (patternOf p e a)) (numberOf (patternOf p e b))
 
@@ -75,5 +76,6 @@ isGreater o = answer false false true false o
 abbrev pub isGreaterOrEqual : Order → Bool
 isGreaterOrEqual o = answer false true true false o
 
+-- and whether there is no order
 abbrev pub isUnordered : Order → Bool
 isUnordered o = answer false false false true o

@@ -35,16 +35,19 @@ floatKey half b =
     (cond (leb half b) (2 * half - 1 - b)
     (half + b))
 
+-- a natural number is its own key, an integer is shifted, a float is turned
 abbrev pub keyIn : Content → ℕ
 keyIn (natural k n) = n
 keyIn (integer k z) = shifted (2 ^ (k - 1)) z
 keyIn (real f x w) = floatKey (signOf (fractionOf f) (exponentOf f)) (floatBits f x w)
 
+-- the key of a value, as a number
 abbrev pub keyNumber : Value → ℕ
 keyNumber v = keyIn (contentOf v)
 
 -- ---- bytes, high byte first
 
+-- the key of a field, in as many bytes as its kind has
 abbrev pub fieldKey : Value → List ℕ
 fieldKey v = bigEndian (bytesOf (kindOf v)) (keyNumber v)
 
@@ -55,6 +58,7 @@ keyOf (f ∷ fs) = fieldKey (f .value) ++ keyOf fs
 
 -- ---- writing
 
+-- what the answer says in the words of the rules
 abbrev pub writtenOutcome : Written → Outcome ℕ
 writtenOutcome (written.Length n) = gives n
 writtenOutcome (written.Refused f) = refusalOf f
@@ -70,6 +74,7 @@ writeRules r room =
     ∷ rule 10 0 (ltb room (length (keyOf (fieldsOf r))))
     ∷ nanRules 0 (fieldsOf r)
 
+-- the length of the key
 unfoldable pub writeOf : Record → ℕ → Outcome ℕ
 writeOf r room = chain (writeRules r room) (gives (length (keyOf (fieldsOf r))))
 
@@ -111,6 +116,7 @@ keyNumbers (k ∷ ks) key = (k, fromBigEndian 0 (take (bytesOf k) key)) ∷ keyN
 abbrev pub canonicalRules : ℕ → List (Kind × ℕ) → List Rule
 canonicalRules at ns = eachOf (λ (f : Kind × ℕ). rule 12 0 (notCanonical (formOf (f .0)) (f .1)) ∷ []) at ns
 
+-- the fields whose keys these are
 abbrev pub fieldsFrom : List (Kind × ℕ) → List Field
 fieldsFrom ns = map (λ (f : Kind × ℕ). fieldFor (valueOf (f .0) (bitsFrom (formOf (f .0)) (f .1)))) ns
 
@@ -121,5 +127,6 @@ readRules s key =
     ∷ rule 9 0 (not (eqb (length key) (bytesIn (kindsIn s))))
     ∷ canonicalRules 0 (keyNumbers (kindsIn s) key)
 
+-- the record of the fields
 unfoldable pub readOf : Shape → List ℕ → Outcome Record
 readOf s key = chain (readRules s key) (gives (recordOf (fieldsFrom (keyNumbers (kindsIn s) key))))

@@ -28,12 +28,14 @@ pub record Keyed (v : Value) : Type 0 where
   pub in-range : InRange (contentOf v)
   pub some-number : isNone (exactOf v) ≡ false
 
+-- the value of every field has a key
 pub data AllKeyed : List Field → Type 0 where
   none : AllKeyed []
   more : (f : Field) (fs : List Field) → Keyed (f .value) → AllKeyed fs → AllKeyed (f ∷ fs)
 
 -- ---- what reading makes of a value and of a record
 
+-- minus zero made plus zero, any other float as it is
 abbrev pub plusZero : Format → Float → Float
 plusZero f x = cond (eqb (toBits f x) (signOf (fractionOf f) (exponentOf f))) (ofBits f 0) x
 
@@ -52,6 +54,7 @@ normalIn (real f x w) v = floatValue f (plusZero f x)
 abbrev pub normal : Value → Value
 normal v = normalIn (contentOf v) v
 
+-- each field made normal
 abbrev pub normalFields : List Field → List Field
 normalFields fs = map (λ (f : Field). fieldFor (normal (f .value))) fs
 
@@ -61,6 +64,7 @@ normalRecord r = recordOf (normalFields (fieldsOf r))
 
 -- ---- records and shapes
 
+-- the key of a record
 abbrev pub recordKey : Record → List ℕ
 recordKey r = keyOf (fieldsOf r)
 

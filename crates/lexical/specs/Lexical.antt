@@ -35,6 +35,7 @@ recordRules a b =
     ∷ rule 7 0 (shapesDiffer (fieldsOf a) (fieldsOf b))
     ∷ []
 
+-- the order of two records
 unfoldable pub compareOf : Record → Record → Outcome Order
 compareOf a b = chain (recordRules a b) (gives (lexicalOf (fieldsOf a) (fieldsOf b)))
 
@@ -50,8 +51,10 @@ decidingOf (x ∷ xs) (y ∷ ys) = cond (isEqual (valueOrder (x .value) (y .valu
 abbrev pub choiceRules : Record → Record → List Rule
 choiceRules a b = recordRules a b ++ (unordered (decidingOf (fieldsOf a) (fieldsOf b)) (lexicalOf (fieldsOf a) (fieldsOf b)) ∷ [])
 
+-- the second when the first is Greater, else the first
 unfoldable pub minOf : Record → Record → Outcome Record
 minOf a b = chain (choiceRules a b) (gives (otherIfGreater a b (lexicalOf (fieldsOf a) (fieldsOf b))))
 
+-- the first when it is Greater, else the second
 unfoldable pub maxOf : Record → Record → Outcome Record
 maxOf a b = chain (choiceRules a b) (gives (otherIfGreater b a (lexicalOf (fieldsOf a) (fieldsOf b))))

@@ -62,6 +62,7 @@ notedOf to s v = record {
 
 -- ---- a string of bytes, behind what was seen before it
 
+-- before the first sample
 abbrev pub nothingSeen : Seen
 nothingSeen = record { samples = 0; nans = 0; lowest = Nothing; highest = Nothing; refusable = 0; answer = rowed.Done }
 
@@ -81,6 +82,7 @@ leftNoted s = record {
   answer = rowed.Refused (record { number = 9; place = s .samples });
 }
 
+-- all its samples, and whether bytes are left over
 unfoldable pub lookOf : Kind → Kind → Seen → List ℕ → Seen
 lookOf from to s src =
     let all = allNoted to s (samplesOf from src) in

@@ -36,12 +36,14 @@ beginning = record { state = record { progress = record { samples = 0; answer = 
 abbrev pub handed : Kind → Kind → List ℕ → List ℕ → Rowed → List ℕ
 handed from to block out answer = writtenBy (rowedOutcome answer) (take (countOf from block * bytesOf to) out)
 
+-- a turn of a move, with the bytes that it handed to a write
 abbrev pub MovesBlock : Kind → Kind → Moving → List ℕ → Moving → Type 0
 MovesBlock from to m block next =
     (length block ≤ blockBytes from to)
     × (old : List ℕ) × (out : List ℕ) × MovedOn from to (m .state) block old out (next .state)
     × (next .written ≡ m .written ++ handed from to block out (next .state .progress .answer))
 
+-- a turn in which a read failed hands nothing on
 abbrev pub MoveFails : Moving → Moving → Type 0
 MoveFails m next = Failed (m .state) (next .state) × (next .written ≡ m .written)
 
@@ -62,15 +64,19 @@ RunDecides =
 
 -- ---- a report
 
+-- nothing seen yet
 abbrev pub unseen : Look
 unseen = record { seen = nothingSeen; fault = Nothing; turns = allTurns }
 
+-- a turn of a report
 abbrev pub LooksAtBlock : Kind → Kind → Look → List ℕ → Look → Type 0
 LooksAtBlock from to s block next = (length block ≤ blockBytes from from) × LookedOn from to s block next
 
+-- some blocks lead from nothing seen to here
 abbrev pub LookedThrough : Kind → Kind → List (List ℕ) → Look → Type 0
 LookedThrough from to = Chain (λ s. s .turns) (LooksAtBlock from to) LookFailed unseen
 
+-- and no turn is left
 abbrev pub Looks : Kind → Kind → Look → Type 0
 Looks from to r = ((bs : List (List ℕ)) × LookedThrough from to bs r) × (r .turns ≡ 0)
 

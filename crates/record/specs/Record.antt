@@ -24,6 +24,7 @@ use Rattle.record.specs.declared.Held.the-variants as held
 
 -- ---- records and their fields
 
+-- a place that holds a value
 abbrev pub fieldFor : Value → Field
 fieldFor v = record { value = v }
 
@@ -39,9 +40,11 @@ valueAt fs at = getD fs at (fieldFor (U8 0)) .value
 abbrev pub blank : Record
 blank = record { fields = replicate 12 (fieldFor (U8 0)); count = 0 }
 
+-- a place of a shape
 abbrev pub placeFor : Kind → Place
 placeFor k = record { kind = k }
 
+-- count 0, and u8 in every place
 abbrev pub blankShape : Shape
 blankShape = record { places = replicate 12 (placeFor kind.U8); count = 0 }
 
@@ -51,6 +54,7 @@ badCount n = eqb n 0 || ltb 12 n
 
 -- ---- what the answers say in the words of the rules
 
+-- whether there is a result
 abbrev pub madeOf : {A : Type 0} → Outcome A → Made
 madeOf (gives a) = made.Done
 madeOf (refuses number place) = made.Refused (record { number = number; place = place })
@@ -60,13 +64,15 @@ abbrev pub resultOr : {A : Type 0} → A → Outcome A → A
 resultOr none (gives a) = a
 resultOr none (refuses number place) = none
 
--- a record beside its outcome, and a shape
+-- a record beside its outcome
 abbrev pub recordedOf : Outcome Record → Recorded
 recordedOf o = record { outcome = madeOf o; «record» = resultOr blank o }
 
+-- a shape beside its outcome
 abbrev pub shapedOf : Outcome Shape → Shaped
 shapedOf o = record { outcome = madeOf o; shape = resultOr blankShape o }
 
+-- a value that was read
 abbrev pub heldOutcome : Held → Outcome Value
 heldOutcome (held.Is v) = gives v
 heldOutcome (held.Refused f) = refusalOf f
@@ -77,9 +83,11 @@ heldOutcome (held.Refused f) = refusalOf f
 abbrev pub placeRules : ℕ → List Rule
 placeRules at = rule 11 0 (ltb 11 at) ∷ []
 
+-- the record with one place changed
 unfoldable pub setOf : Record → ℕ → Value → Outcome Record
 setOf r at v = chain (placeRules at) (gives (record { fields = set (r .fields) at (fieldFor v); count = r .count }))
 
+-- the value in a place
 unfoldable pub getOf : Record → ℕ → Outcome Value
 getOf r at = chain (placeRules at) (gives (valueAt (r .fields) at))
 
@@ -89,9 +97,11 @@ pushOf r v = chain (placeRules (r .count)) (gives (record { fields = set (r .fie
 
 -- ---- shapes
 
+-- the kinds of a shape
 abbrev pub kindsIn : Shape → List Kind
 kindsIn s = map (λ (p : Place). p .kind) (take (s .count) (s .places))
 
+-- the kinds of fields
 abbrev pub kindsOf : List Field → List Kind
 kindsOf fs = map (λ (f : Field). kindOf (f .value)) fs
 
@@ -103,6 +113,7 @@ shapeFor ks = record { places = map placeFor ks ++ replicate (12 - length ks) (p
 abbrev pub countRules : ℕ → List Rule
 countRules n = rule 11 0 (badCount n) ∷ []
 
+-- the shape of a record
 unfoldable pub shapeOf : Record → Outcome Shape
 shapeOf r = chain (countRules (r .count)) (gives (shapeFor (kindsOf (fieldsOf r))))
 

@@ -22,6 +22,7 @@ floatIn (natural k n) = nan
 floatIn (integer k z) = nan
 floatIn (real f x w) = x
 
+-- of a value
 abbrev pub floatOf : Value → Float
 floatOf v = floatIn (contentOf v)
 
@@ -48,5 +49,6 @@ lengthRules src dst = rule 9 0 (not (eqb (length src) (length dst))) ∷ []
 unfoldable pub convertAnswer : {A B : Type 0} → (A → Outcome B) → List A → List B → Outcome Success
 convertAnswer conv src dst = chain (lengthRules src dst) (rowAnswer conv 0 src)
 
+-- the second row at the end
 unfoldable pub convertExit : {A B : Type 0} → (A → Outcome B) → List A → List B → List B
 convertExit conv src dst = lentAfter (λ d. rowResults conv src) (convertAnswer conv src dst) dst

@@ -21,6 +21,7 @@ unfoldable pub rowAnswer : {A B : Type 0} → (A → Outcome B) → ℕ → List
 rowAnswer conv at [] = gives done
 rowAnswer conv at (x ∷ xs) = sampleThen at (conv x) (rowAnswer conv (suc at) xs)
 
+-- what a sample is converted to, before those behind it
 abbrev pub sampleBefore : {B : Type 0} → Outcome B → List B → List B
 sampleBefore (gives y) ys = y ∷ ys
 sampleBefore (refuses number place) ys = ys

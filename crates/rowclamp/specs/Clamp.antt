@@ -11,5 +11,6 @@ use Rattle.row.specs.Row.{rowAnswer, rowResults}
 unfoldable pub clampAnswer : Range → List Float → Outcome Success
 clampAnswer range row = chain (boundsRules (range .lower) (range .upper)) (rowAnswer (sampleOf range) 0 row)
 
+-- the row at the end
 unfoldable pub clampExit : Range → List Float → List Float
 clampExit range row = lentAfter (λ d. rowResults (sampleOf range) row) (clampAnswer range row) row

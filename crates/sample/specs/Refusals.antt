@@ -16,6 +16,7 @@ use Rattle.sample.specs.Samples.{countOf, leftOf, samplesOf}
 unfoldable pub bitsTo : Kind → Value → Outcome ℕ
 bitsTo to v = mapped bitsOf (convertOf v to)
 
+-- there is no result
 abbrev pub isRefused : {A : Type 0} → Outcome A → Bool
 isRefused (gives a) = false
 isRefused (refuses number place) = true

@@ -25,6 +25,7 @@ countOf k bytes = length bytes / bytesOf k
 abbrev pub leftOf : Kind → List ℕ → ℕ
 leftOf k bytes = length bytes % bytesOf k
 
+-- all whole samples
 abbrev pub samplesOf : Kind → List ℕ → List Value
 samplesOf k bytes = samplesIn k (countOf k bytes) bytes
 

@@ -23,16 +23,19 @@ abbrev pub answeredOf : Outcome Success → Answer
 answeredOf (gives d) = record { number = 0; place = 0 }
 answeredOf (refuses number place) = record { number = number; place = place }
 
+-- Less, Equal, Greater, Unordered are 0 to 3
 abbrev pub orderNumber : Order → ℕ
 orderNumber Less = 0
 orderNumber Equal = 1
 orderNumber Greater = 2
 orderNumber Unordered = 3
 
+-- an order
 abbrev pub orderedOf : Outcome Order → Ordered
 orderedOf (gives o) = record { number = 0; place = 0; order = orderNumber o }
 orderedOf (refuses number place) = record { number = number; place = place; order = 0 }
 
+-- zero, subnormal, normal, infinite, NaN are 0 to 4
 abbrev pub classNumber : Class → ℕ
 classNumber Zero = 0
 classNumber Subnormal = 1
@@ -40,21 +43,26 @@ classNumber Normal = 2
 classNumber Infinite = 3
 classNumber Nan = 4
 
+-- a class
 abbrev pub classedOf : Outcome Class → Classed
 classedOf (gives c) = record { number = 0; place = 0; class = classNumber c }
 classedOf (refuses number place) = record { number = number; place = place; class = 0 }
 
+-- a position
 abbrev pub positionedOf : Outcome ℤ → Positioned
 positionedOf (gives z) = record { number = 0; place = 0; position = z }
 positionedOf (refuses number place) = record { number = number; place = place; position = pos 0 }
 
+-- a sample: its kind's number and its bits
 abbrev pub sampledOf : Outcome Value → Sampled
 sampledOf (gives v) = record { number = 0; place = 0; kind = kindNumber (kindOf v); bits = bitsOf v }
 sampledOf (refuses number place) = record { number = number; place = place; kind = 0; bits = 0 }
 
+-- a length
 abbrev pub measuredOf : Outcome ℕ → Measured
 measuredOf (gives n) = record { number = 0; place = 0; length = n }
 measuredOf (refuses number place) = record { number = number; place = place; length = 0 }
 
+-- two floats, as a range
 abbrev pub boundsOf : Float → Float → Range
 boundsOf lower upper = record { lower = lower; upper = upper }

@@ -22,6 +22,7 @@ use Rattle.silamogo.specs.Samples.{anyUnnamed, kindFor, valueFor, wideRu
 
 -- ---- what two lists stand for
 
+-- a number and bits, as a sample
 abbrev pub sampleFor : ℕ → ℕ → Sample
 sampleFor number bits = record { kind = number; bits = bits }
 
@@ -37,19 +38,23 @@ padded zero none xs = []
 padded (suc n) none [] = none ∷ padded n none []
 padded (suc n) none (x ∷ xs) = x ∷ padded n none xs
 
--- the count is the number of fields, above 12 too; twelve places hold the first of them, and u8 0 behind
+-- the field of a sample
 abbrev pub fieldIn : Sample → Field
 fieldIn s = fieldFor (valueFor s)
 
+-- the count is the number of fields, above 12 too; twelve places hold the first of them, and u8 0 behind
 abbrev pub recordFor : List Sample → Record
 recordFor ss = record { fields = padded 12 (fieldFor (U8 0)) (map fieldIn ss); count = length ss }
 
+-- the place of a kind's number
 abbrev pub placeIn : ℕ → Place
 placeIn n = placeFor (kindFor n)
 
+-- a shape alike, with u8 behind
 abbrev pub shapeFor : List ℕ → Shape
 shapeFor ns = record { places = padded 12 (placeFor kind.U8) (map placeIn ns); count = length ns }
 
+-- the bits of a field
 abbrev pub fieldBits : Field → ℕ
 fieldBits f = bitsOf (f .value)
 
@@ -82,6 +87,7 @@ roomRules ns room = rule 7 0 (anyUnnamed ns) ∷ rule 9 0 (not (eqb (length ns) 
 
 -- ---- the calls
 
+-- how two records compare
 unfoldable pub recordsOrder : List ℕ → List ℕ → List ℕ → List ℕ → Outcome Order
 recordsOrder ns xs ms ys = chain (twoRecordsRules ns xs ms ys) (compareOf (recordFor (pairedSamples ns xs)) (recordFor (pairedSamples ms ys)))
 

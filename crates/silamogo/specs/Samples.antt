@@ -16,6 +16,7 @@ use Rattle.silamogo.specs.declared.Sample.{Sample}
 
 -- ---- kinds
 
+-- no kind was found
 abbrev pub isNothing : KindFound → Bool
 isNothing (Is k) = false
 isNothing Nothing = true
@@ -24,6 +25,7 @@ isNothing Nothing = true
 unfoldable pub unnamed : ℕ → Bool
 unnamed n = isNothing (kindAt n)
 
+-- one of them names none
 unfoldable pub anyUnnamed : List ℕ → Bool
 anyUnnamed [] = false
 anyUnnamed (n ∷ ns) = unnamed n || anyUnnamed ns
@@ -60,6 +62,7 @@ wideRule ss = rule 4 (firstWide ss) (ltb (firstWide ss) (length ss))
 
 -- ---- single samples, whose place is 0
 
+-- one of them has such bits
 unfoldable pub anyWide : List Sample → Bool
 anyWide [] = false
 anyWide (s ∷ ss) = tooWide s || anyWide ss

@@ -22,6 +22,7 @@ use Rattle.silamogo.specs.Samples.{kindFor, anyWide, valueFor, samplesRu
 abbrev pub twoRules : Sample → Sample → List Rule
 twoRules a b = samplesRules (a .kind ∷ b .kind ∷ []) (a ∷ b ∷ [])
 
+-- a call on two values, once their samples have passed
 abbrev pub twoThen : {A : Type 0} → (Value → Value → Outcome A) → Sample → Sample → Outcome A
 twoThen call a b = chain (twoRules a b) (call (valueFor a) (valueFor b))
 
@@ -41,6 +42,7 @@ maxOf a b = twoThen choose.maxOf a b
 abbrev pub threeRules : Sample → Sample → Sample → List Rule
 threeRules v lower upper = samplesRules (v .kind ∷ lower .kind ∷ upper .kind ∷ []) (v ∷ lower ∷ upper ∷ [])
 
+-- the clamp of a sample
 unfoldable pub clampOf : Sample → Sample → Sample → Outcome Value
 clampOf v lower upper = chain (threeRules v lower upper) (choose.clampOf (valueFor v) (valueFor lower) (valueFor upper))
 
@@ -50,6 +52,7 @@ clampOf v lower upper = chain (threeRules v lower upper) (choose.clampOf (valueF
 abbrev pub kindRules : Sample → ℕ → List Rule
 kindRules v to = samplesRules (v .kind ∷ to ∷ []) (v ∷ [])
 
+-- the conversion of a sample
 unfoldable pub convertOf : Sample → ℕ → Outcome Value
 convertOf v to = chain (kindRules v to) (convert.convertOf (valueFor v) (kindFor to))
 
@@ -67,8 +70,10 @@ ofFloat tell s = cond (eqb (s .kind) 8) (tell 23 8 (s .bits)) (tell 52 11 (s .bi
 abbrev pub floatRules : Sample → List Rule
 floatRules s = rule 7 0 (notFloat (s .kind)) ∷ rule 4 0 (anyWide (s ∷ [])) ∷ []
 
+-- the class of a pattern
 unfoldable pub classifyOf : Sample → Outcome Class
 classifyOf s = chain (floatRules s) (gives (ofFloat classOf s))
 
+-- its position in the total order
 unfoldable pub samplePosition : Sample → Outcome ℤ
 samplePosition s = chain (floatRules s) (gives (ofFloat positionOf s))

@@ -13,6 +13,7 @@ use Rattle.value.specs.declared.Layout.the-variants as layout
 use Rattle.value.specs.declared.KindFound.{KindFound}
 use Rattle.value.specs.declared.KindFound.the-variants.{Is, Nothing}
 
+-- the kind of a value is its case
 abbrev pub kindOf : Value → Kind
 kindOf (U8 n) = kind.U8
 kindOf (U16 n) = kind.U16
@@ -38,6 +39,7 @@ kindNumber kind.I64 = 7
 kindNumber kind.F32 = 8
 kindNumber kind.F64 = 9
 
+-- in the order of their numbers
 abbrev pub allKinds : List Kind
 allKinds = kind.U8 ∷ kind.U16 ∷ kind.U32 ∷ kind.U64 ∷ kind.I8 ∷ kind.I16 ∷ kind.I32 ∷ kind.I64 ∷ kind.F32 ∷ kind.F64 ∷ []
 
@@ -47,6 +49,7 @@ kindIn [] n = Nothing
 kindIn (k ∷ ks) zero = Is k
 kindIn (k ∷ ks) (suc n) = kindIn ks n
 
+-- the kind with a number
 abbrev pub kindAt : ℕ → KindFound
 kindAt n = kindIn allKinds n
 
@@ -55,6 +58,7 @@ pub data Form : Type 0 where
   unsigned signed : ℕ → Form
   floating : Format → Form
 
+-- the form of a kind
 abbrev pub formOf : Kind → Form
 formOf kind.U8 = unsigned 8
 formOf kind.U16 = unsigned 16
@@ -73,7 +77,7 @@ isInteger (unsigned n) = true
 isInteger (signed n) = true
 isInteger (floating f) = false
 
--- how many bits a kind has
+-- how many bits a form has
 abbrev pub widthIn : Form → ℕ
 widthIn (unsigned n) = n
 widthIn (signed n) = n
@@ -85,6 +89,7 @@ layoutFor (unsigned n) = layout.Unsigned n
 layoutFor (signed n) = layout.Signed n
 layoutFor (floating f) = layout.Float (widthIn (floating f)) (fractionOf f)
 
+-- how many bits a kind has
 abbrev pub widthOf : Kind → ℕ
 widthOf k = widthIn (formOf k)
 

@@ -21,6 +21,7 @@ pub data Content : Type 0 where
   integer : ℕ → ℤ → Content
   real : Format → Float → ℕ → Content
 
+-- what a value holds
 abbrev pub contentOf : Value → Content
 contentOf (U8 n) = natural 8 n
 contentOf (U16 n) = natural 16 n
@@ -53,16 +54,19 @@ nanWord p e w = cond (nanOf p e w) w (infOf p e + 2 ^ (p - 1))
 unfoldable pub floatBits : Format → Float → ℕ → ℕ
 floatBits f x w = cond (isNan x) (nanWord (fractionOf f) (exponentOf f) w) (toBits f x)
 
+-- the bits of what it holds
 abbrev pub bitsIn : Content → ℕ
 bitsIn (natural k n) = n
 bitsIn (integer k z) = twosOf (2 ^ k - 1) z
 bitsIn (real f x w) = floatBits f x w
 
+-- the bits of a value
 abbrev pub bitsOf : Value → ℕ
 bitsOf v = bitsIn (contentOf v)
 
 -- ---- the one meaning: no number, an infinity, or a sign and a magnitude in units of 2^-1074
 
+-- an integer has a sign and a magnitude
 abbrev pub wholeOf : ℤ → Exact
 wholeOf (pos n) = finite false n
 wholeOf (negsuc n) = finite true (suc n)
@@ -71,15 +75,18 @@ wholeOf (negsuc n) = finite true (suc n)
 unfoldable pub unit : ℕ
 unit = 2 ^ 1074
 
+-- a step of f32 is 2^-149, one of f64 is the unit
 unfoldable pub stepOf : Format → ℕ
 stepOf binary32 = 2 ^ 925
 stepOf binary64 = 1
 
+-- what a content stands for
 abbrev pub exactIn : Content → Exact
 exactIn (natural k n) = times unit (wholeOf (pos n))
 exactIn (integer k z) = times unit (wholeOf z)
 exactIn (real f x w) = times (stepOf f) (patternOf (fractionOf f) (exponentOf f) (floatBits f x w))
 
+-- what a value stands for
 abbrev pub exactOf : Value → Exact
 exactOf v = exactIn (contentOf v)
 
@@ -89,11 +96,13 @@ numberOf v = float-number.numberOf (exactOf v)
 
 -- ---- the place in the total order: an integer's number, a float's position
 
+-- of what it holds
 abbrev pub positionIn : Content → ℤ
 positionIn (natural k n) = pos n
 positionIn (integer k z) = z
 positionIn (real f x w) = patterns.positionOf (fractionOf f) (exponentOf f) (floatBits f x w)
 
+-- of a value
 abbrev pub positionOf : Value → ℤ
 positionOf v = positionIn (contentOf v)
 
@@ -107,9 +116,11 @@ fromTwos half n = cond (ltb n half) (pos n) (negsuc (2 * half - 1 - n))
 abbrev pub wordFor : ℕ → ℕ → ℕ → ℕ
 wordFor p e b = cond (nanOf p e b) b 0
 
+-- the value of an f32 pattern
 abbrev pub f32Value : ℕ → Value
 f32Value b = F32 (ofBits binary32 b) (wordFor 23 8 b)
 
+-- and of an f64 pattern
 abbrev pub f64Value : ℕ → Value
 f64Value b = F64 (ofBits binary64 b) (wordFor 52 11 b)
 

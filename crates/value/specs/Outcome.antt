@@ -5,6 +5,7 @@ use mathlib.Core.List.{List, _++_}
 use lib.ListN.{length, drop}
 use Rattle.value.specs.declared.Refusal.{Refusal}
 
+-- a result, or a number and a place
 pub data Outcome (A : Type 0) : Type 0 where
   gives : A → Outcome A
   refuses : ℕ → ℕ → Outcome A
@@ -18,6 +19,7 @@ abbrev pub refuseIf : {A : Type 0} → Bool → ℕ → ℕ → Outcome A → Ou
 refuseIf true number place next = refuses number place
 refuseIf false number place next = next
 
+-- a refusal of the code
 abbrev pub refusalOf : {A : Type 0} → Refusal → Outcome A
 refusalOf f = refuses (f .number) (f .place)
 

@@ -40,9 +40,11 @@ pub record By {A : Type 0} (rules : List Rule) (o : Outcome A) : Type 0 where
 
 -- ---- rules of a row and of the fields of a record: those of each one in turn, with its index as the place
 
+-- a rule at another place
 abbrev pub placed : ℕ → Rule → Rule
 placed at (rule n p holds) = rule n at holds
 
+-- the rules of each, from the index `at` on
 unfoldable pub eachOf : {A : Type 0} → (A → List Rule) → ℕ → List A → List Rule
 eachOf rules at [] = []
 eachOf rules at (x ∷ xs) = map (placed at) (rules x) ++ eachOf rules (suc at) xs

@@ -38,6 +38,7 @@ withKind kind.Nothing digits = one.Malformed
 unfoldable pub valueIn : List ℕ → OneValue
 valueIn s = withKind (kindNamed (beforeOf 58 s)) (afterOf 58 s)
 
+-- two values, if both are
 abbrev pub both : OneValue → OneValue → TwoValues
 both (one.Is a) (one.Is b) = two.Are a b
 both (one.Is a) one.Malformed = two.Malformed
@@ -47,6 +48,7 @@ both one.Malformed b = two.Malformed
 unfoldable pub valuesIn : List ℕ → TwoValues
 valuesIn s = both (valueIn (beforeOf 32 s)) (valueIn (afterOf 32 s))
 
+-- a value and a kind, if both are
 abbrev pub beside : OneValue → KindFound → ValueAndKind
 beside (one.Is v) (kind.Is k) = target.Are v k
 beside (one.Is v) kind.Nothing = target.Malformed
