@@ -30,11 +30,10 @@ use Rattle.row.proofs.F32Sample.{bits-are, any-word}
 use Rattle.row.proofs.IntoUnsigned.{u8-wider, narrow-small}
 use Rattle.row.proofs.IntoF32.{cast-value, encoded, same-number, u16-float}
 use Rattle.value.specs.Kinds.{bytesOf}
-use Rattle.bytewise.specs.Numbers.{fromLittleEndian}
+use Rattle.bytewise.specs.Numbers.{fromLittleEndian, littleEndian}
 use Rattle.sample.specs.Samples.{countOf, samplesOf, numbersIn}
 use Rattle.sample.specs.Refusals.{bitsTo}
 use Rattle.sample.proofs.Samplings.{length-numbers}
-use Rattle.bytewise.specs.Numbers.{littleEndian}
 use Rattle.block.specs.Output.{bytesFor}
 use Rattle.block.specs.Inner.{plainBits, floatedBits}
 use Rattle.block.proofs.Blocks.{BlockAnswers}

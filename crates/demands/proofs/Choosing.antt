@@ -8,7 +8,7 @@ use lib.Ieee.{Float, binary32, toBits}
 use Rattle.float.specs.declared.Order.{Order}
 use Rattle.float.specs.declared.Order.the-variants.{Less, Equal, Greater, Unordered}
 use Rattle.float.specs.Number as float-number
-use Rattle.float.specs.Order.{isLess, isGreater, isLessOrEqual, isUnordered, orderOf, patternOf}
+use Rattle.float.specs.Order.{isLess, isGreater, isLessOrEqual, isUnordered, orderOf, patternOf, orElse}
 use Rattle.float.specs.Order as float-order
 use Rattle.float.proofs.Tests.{clash}
 use Rattle.value.specs.declared.Value.the-variants.{F32}
@@ -21,7 +21,6 @@ use Rattle.choose.specs.Inner.{clampedBy}
 use Rattle.cmp.proofs.Numbers.{patterns-order}
 use Rattle.record.specs.declared.Field.{Field}
 use Rattle.record.specs.declared.Record.{Record}
-use Rattle.float.specs.Order.{orElse}
 use Rattle.record.specs.Record.{fieldsOf}
 use Rattle.lexical.specs.Lexical.{lexicalOf}
 use Rattle.lexical.specs.Lexical as lexical

@@ -22,8 +22,7 @@ use Rattle.value.specs.Kinds.{kindOf, Form, floating, formOf, isInteger}
 use Rattle.value.specs.Meaning.{fitsSigned, bitsOf, exactOf, numberOf, positionOf, valueOf}
 use Rattle.value.specs.Outcome.{Outcome, gives, refuses, mapped}
 use Rattle.choose.specs.declared.Range.{Range}
-use Rattle.cmp.specs.Compare.{compareOf, eqOf, totalOf}
-use Rattle.cmp.specs.Compare.{valueOrder}
+use Rattle.cmp.specs.Compare.{compareOf, eqOf, totalOf, valueOrder}
 use Rattle.choose.specs.Choose.{minOf, maxOf, clampOf, sampleOf}
 use Rattle.convert.specs.Convert.{convertOf}
 use Rattle.record.specs.declared.Field.{Field}

@@ -23,11 +23,10 @@ use Rattle.record.specs.declared.Field.{Field}
 use Rattle.float.specs.Order.{orElse}
 use Rattle.record.specs.Record.{fieldFor, kindsOf}
 use Rattle.lexical.specs.Lexical.{lexicalOf}
-use Rattle.bytewise.specs.Numbers.{bigEndian, fromBigEndian}
+use Rattle.bytewise.specs.Numbers.{bigEndian, fromBigEndian, Bytes}
 use Rattle.key.specs.Key.{keyNumber, fieldKey, keyOf, bitsFrom, notCanonical, bytesIn}
 use Rattle.key.specs.Inner.{readFields}
 use Rattle.bytewise.specs.Order.{bytesOrder}
-use Rattle.bytewise.specs.Numbers.{Bytes}
 use Rattle.bytewise.specs.Numbers as numbers
 use Rattle.key.specs.Keyed.{Keyed, AllKeyed, none, more, normalFields}
 use Rattle.key.proofs.Passing.{mapped-gives, read-none, read-more}

@@ -4,7 +4,7 @@ use mathlib.Core.Logic.{_⊎_, inl, inr}
 use mathlib.Core.List.{List, [], _∷_}
 use Rattle.float.specs.declared.Order.{Order}
 use Rattle.float.specs.declared.Order.the-variants.{Less, Equal, Greater, Unordered}
-use Rattle.float.specs.Order.{orderOf}
+use Rattle.float.specs.Order.{orderOf, orElse}
 use Rattle.float.proofs.Turned.{turned, turn}
 use Rattle.float.proofs.Transitive.{less-trans}
 use Rattle.float.proofs.SameNumber.{equal-same}
@@ -14,7 +14,6 @@ use Rattle.value.specs.Meaning.{numberOf}
 use Rattle.cmp.specs.Compare.{valueOrder}
 use Rattle.cmp.proofs.Given.{compared-order, order-compared}
 use Rattle.record.specs.declared.Field.{Field}
-use Rattle.float.specs.Order.{orElse}
 use Rattle.record.specs.Record.{fieldFor, kindsOf}
 use Rattle.lexical.specs.Lexical.{lexicalOf}
 use Rattle.laws_cmp.specs.Laws.{AllIntegers, AllEqual, OneIntegerKind}

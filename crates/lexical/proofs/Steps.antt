@@ -10,7 +10,7 @@ use lib.ListN.{length, take, drop}
 use lib.Seq.{drop-cons}
 use Rattle.float.specs.declared.Order.{Order}
 use Rattle.float.specs.declared.Order.the-variants.{Less, Equal, Greater, Unordered}
-use Rattle.float.specs.Order.{isEqual}
+use Rattle.float.specs.Order.{isEqual, orElse}
 use Rattle.float.proofs.Tests.{neither}
 use Rattle.value.specs.declared.Value.the-variants.{U8}
 use Rattle.cmp.specs.Compare.{kindsDiffer, valueOrder}
@@ -18,7 +18,6 @@ use Rattle.record.proofs.Twelve.{Twelve, twelve}
 use Rattle.record.specs.declared.Field.{Field}
 use Rattle.record.specs.declared.Record.{Record}
 use Rattle.lexical.specs.declared.comparisons.Decision.{Decision}
-use Rattle.float.specs.Order.{orElse}
 use Rattle.record.specs.Record.{fieldFor, valueAt}
 use Rattle.lexical.specs.Lexical.{lexicalOf, decidingOf, shapesDiffer}
 use Rattle.lexical.specs.Inner.{decisionFrom}
