@@ -1,4 +1,5 @@
 pub mod Sizes
 pub mod Steps
+pub mod Places
 pub mod Runs
 pub mod RunDecides

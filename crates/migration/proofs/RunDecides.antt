@@ -1,13 +1,13 @@
--- What a run answers and hands to a write, and what a report tells, is what all blocks that it took come to as a whole.
-use Prim.Native.Nat.{ℕ, _*_, _/_, _%_, _≤_, _<_}
-use native.Mathlib.Nat.{le-div-iff-mul-le}
+-- What a run answers, hands to a write and tells of a refused sample, and what a report tells, is what all blocks that it took come to as a whole.
+use Prim.Native.Nat.{ℕ, _*_, _/_, _%_, _^_, _≤_, _<_}
+use native.Mathlib.Nat.{le-div-iff-mul-le, zero-mod}
 use native.Mathlib.Omega.{arith}
 use mathlib.Core.Bool.{Bool, true, false, not}
-use mathlib.Core.List.{List, [], _∷_, _++_}
+use mathlib.Core.List.{List, [], _∷_, _++_, append-assoc, append-nil}
 use mathlib.Core.Path.{_≡_, refl, sym, _∙_, ap, subst}
 use borrow.Author.Tests.{eqb-true}
 use lib.Dec.{eqb}
-use lib.ListN.{length, take, drop}
+use lib.ListN.{length, take, drop, length-append}
 use lib.Seq.{take-at}
 use Rattle.float.proofs.Tests.{clash}
 use Rattle.value.specs.declared.Kind.{Kind}
@@ -16,8 +16,9 @@ use Rattle.value.specs.Outcome.{Outcome, gives, refuses, refuseIf, andThen, map
 use Rattle.value.proofs.Widths.{bytes-range}
 use Rattle.row.specs.Row.{rowedOutcome, rowAnswer, rowResults}
 use Rattle.sample.specs.Samples.{countOf, leftOf, samplesOf, joined}
-use Rattle.sample.specs.Refusals.{bitsTo}
+use Rattle.sample.specs.Refusals.{bitsTo, answerOf}
 use Rattle.sample.proofs.Samplings.{length-samples}
+use Rattle.sample.proofs.Joining.{left-joined}
 use Rattle.block.specs.Migrate.{outputOf, migrateOf, placedFrom, blockAnswer, stepSamples, stepAnswer, stepExit}
 use Rattle.block.specs.Theorem.{Blocks, none, last, more, Reached, writtenBy, stepped, runOf, start}
 use Rattle.block.proofs.Samplings.{length-bytes}
@@ -34,8 +35,10 @@ use Rattle.migration.specs.declared.blocks.State.{State}
 use Rattle.migration.specs.Sizes.{bufferBytes, blockBytes}
 use Rattle.migration.specs.Turns.{turnsLeft}
 use Rattle.migration.specs.Steps.{MovedOn}
-use Rattle.migration.specs.Runs.{Moving, handed, MovesBlock, MoveFails, RunDecides, LookDecides}
+use Rattle.migration.specs.Runs.{Moving, handed, MovesBlock, MoveFails, Ran, refusedSample, RunDecides, LookDecides}
 use Rattle.migration.proofs.Sizes.{block-room, fewer-room}
+use Rattle.migration.proofs.Places.{told-next}
+use Rattle.input.specs.Chain.{begins, takes, fails}
 use Rattle.input.proofs.Chains.{AllButLast, none-at-all, last-one, not-last, shape, folded, leads}
 
 -- ---- a block
@@ -140,15 +143,68 @@ in-parts from none-at-all = parts.none
 in-parts from (last-one b p) = parts.last b
 in-parts from (not-last b bs p q rest) = parts.more b bs q (in-parts from rest)
 
-pub run-decides : RunDecides
-run-decides from to bs m ran short =
+-- ---- the theorems
+
+run-answers : (from to : Kind) (bs : List (List ℕ)) (m : Moving) → Ran from to bs m → length (joined bs) < 2 ^ 64
+    → (m .state .progress .samples ≡ countOf from (joined bs))
+    × (mapped (λ d. m .written) (rowedOutcome (m .state .progress .answer)) ≡ migrateOf from to (joined bs))
+run-answers from to bs m ran short =
     let shaped = blocks from to
     (shape (λ s next b t. fits from to b (t .0))
-    (λ s next b t h. ends-whole from to b (next .state .turns) (s .state .turns) (next .state .fault) (t .3 .3) h) (λ s next f. f .0 .2) ran) in
+    (λ s next b t h. ends-whole from to b (next .state .turns) (s .state .turns) (next .state .fault) (t .3 .4) h) (λ s next f. f .0 .3) ran) in
     let led : runOf from to bufferBytes start bs ≡ standing from to m =
     sym (run-folded from to bs start) ∙ leads (stepped from to bufferBytes) (standing from to) (step-stands from to) (fail-stands from to) ran in
     subst (λ (x : Reached). (x .samples ≡ countOf from (joined bs)) × (mapped (λ d. x .output) (x .answer) ≡ migrateOf from to (joined bs))) led
     (blocks-decide from to bufferBytes bs shaped short)
+
+-- whatever is given
+same-answer : {A : Type 0} (x y : A) (o r : Outcome Success) → mapped (λ d. x) o ≡ mapped (λ d. y) r → o ≡ r
+same-answer x y (gives done) (gives done) h = refl
+same-answer x y (gives done) (refuses n q) h = clash cc
+same-answer x y (refuses n q) (gives done) h = clash cc
+same-answer x y (refuses n q) (refuses m p) h = cc
+
+joined-last : (bs : List (List ℕ)) (b : List ℕ) → joined (bs ++ (b ∷ [])) ≡ joined bs ++ b
+joined-last [] b = append-nil b
+joined-last (c ∷ bs) b = ap (λ (l : List ℕ). c ++ l) (joined-last bs b) ∙ sym (append-assoc c (joined bs) b)
+
+shorter : (p b : List ℕ) → length (p ++ b) < 2 ^ 64 → length p < 2 ^ 64
+shorter p b h = let l = length-append p b in omega arith
+
+module _ (from to : Kind) where
+  run-answer : {bs : List (List ℕ)} {m : Moving} → Ran from to bs m → length (joined bs) < 2 ^ 64
+      → rowedOutcome (m .state .progress .answer) ≡ answerOf from to (joined bs)
+  unfolding migrateOf
+  run-answer {bs} {m} ran short =
+      same-answer (m .written) (outputOf from to (joined bs)) (rowedOutcome (m .state .progress .answer)) (answerOf from to (joined bs))
+      (run-answers from to bs m ran short .1)
+
+  -- while turns are left, there are whole samples only
+  whole-yet : {bs : List (List ℕ)} {m : Moving} → Ran from to bs m → 0 < m .state .turns → leftOf from (joined bs) ≡ 0
+  whole-yet begins h = zero-mod (bytesOf from)
+  whole-yet (takes bs s next b ran some t) h =
+      ap (leftOf from) (joined-last bs b)
+      ∙ left-joined from (joined bs) b (whole-yet ran some)
+      ∙ ends-whole from to b (next .state .turns) (s .state .turns) (next .state .fault) (t .3 .4) h
+  whole-yet (fails bs s next ran some f) h = absurd (omega (arith, h, f .0 .3))
+
+  run-tells : {bs : List (List ℕ)} {m : Moving} → Ran from to bs m → length (joined bs) < 2 ^ 64
+      → m .state .sample ≡ refusedSample from (joined bs) (rowedOutcome (m .state .progress .answer))
+  run-tells begins short = refl
+  run-tells (takes bs s next b ran some t) short =
+      let behind = joined-last bs b in
+      let before = shorter (joined bs) b (subst (λ (l : List ℕ). length l < 2 ^ 64) behind short) in
+      subst (λ (l : List ℕ). next .state .sample ≡ refusedSample from l (rowedOutcome (next .state .progress .answer))) (sym behind)
+      (t .3 .2
+      ∙ told-next from to (joined bs) b (whole-yet ran some) (run-tells ran before) (run-answers from to bs s ran before .0) (run-answer ran before)
+      (run-answer (takes bs s next b ran some t) short ∙ ap (answerOf from to) behind))
+  run-tells (fails bs s next ran some f) short =
+      f .0 .1 ∙ run-tells ran short ∙ ap (λ p. refusedSample from (joined bs) (rowedOutcome (p .answer))) (sym (f .0 .0))
+
+pub run-decides : RunDecides
+run-decides from to bs m ran short =
+    let answers = run-answers from to bs m ran short in
+    (answers .0, answers .1, run-tells from to ran short)
 
 pub look-decides : LookDecides
 look-decides from to bs r looked short =

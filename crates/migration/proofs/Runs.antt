@@ -5,6 +5,7 @@ use mathlib.Core.List.{List, [], _∷_, _++_}
 use mathlib.Core.Path.{_≡_, refl}
 use Rattle.value.specs.declared.Kind.{Kind}
 use Rattle.block.specs.declared.Progress.{Progress}
+use Rattle.look.specs.declared.Found.the-variants as found
 use Rattle.look.specs.declared.Seen.{Seen}
 use Rattle.look.specs.Report.{nothingSeen}
 use Rattle.input.specs.Chain.{allTurns, begins, takes, fails}
@@ -20,7 +21,8 @@ module _ (from to : Kind) where
   Reaches s = (bs : List (List ℕ)) × (written : List ℕ) × Ran from to bs (record { state = s; written = written })
 
   -- none led to the beginning
-  pub at-beginning : (p : Progress) → p ≡ beginning .state .progress → Reaches (record { progress = p; fault = Nothing; turns = allTurns })
+  pub at-beginning : (p : Progress) → p ≡ beginning .state .progress
+      → Reaches (record { progress = p; sample = found.Nothing; fault = Nothing; turns = allTurns })
   at-beginning p q = rw q ([], [], begins)
 
   -- a turn leads on

@@ -5,13 +5,15 @@ use mathlib.Core.List.{List, [], _++_}
 use lib.ListN.{length, take}
 use Rattle.value.specs.declared.Kind.{Kind}
 use Rattle.value.specs.Kinds.{bytesOf}
-use Rattle.value.specs.Outcome.{mapped}
+use Rattle.value.specs.Outcome.{Outcome, mapped, Success}
 use Rattle.row.specs.declared.Rowed.{Rowed}
 use Rattle.row.specs.declared.Rowed.the-variants.{Done}
 use Rattle.row.specs.Row.{rowedOutcome}
-use Rattle.sample.specs.Samples.{countOf, joined}
+use Rattle.sample.specs.Samples.{countOf, joined, sampleAt}
 use Rattle.block.specs.Migrate.{migrateOf}
 use Rattle.block.specs.Theorem.{writtenBy}
+use Rattle.look.specs.declared.Found.{Found}
+use Rattle.look.specs.declared.Found.the-variants as found
 use Rattle.look.specs.Report.{nothingSeen}
 use Rattle.look.specs.ReportTheorem.{Tells}
 use Rattle.migration.specs.declared.blocks.State.{State}
@@ -19,7 +21,7 @@ use Rattle.migration.specs.declared.blocks.Fault.the-variants.{Nothing}
 use Rattle.migration.specs.declared.looks.Look.{Look}
 use Rattle.input.specs.Chain.{Chain, allTurns}
 use Rattle.migration.specs.Sizes.{blockBytes}
-use Rattle.migration.specs.Steps.{MovedOn, Failed, LookedOn, LookFailed}
+use Rattle.migration.specs.Steps.{sampleBy, MovedOn, Failed, LookedOn, LookFailed}
 
 -- ---- a move
 
@@ -30,7 +32,10 @@ pub record Moving : Type 0 where
 
 -- no samples yet, nothing refused and nothing written
 abbrev pub beginning : Moving
-beginning = record { state = record { progress = record { samples = 0; answer = Done }; fault = Nothing; turns = allTurns }; written = [] }
+beginning = record {
+  state = record { progress = record { samples = 0; answer = Done }; sample = found.Nothing; fault = Nothing; turns = allTurns };
+  written = [];
+}
 
 -- what is handed to a write for a block: the bytes of its samples, from the front of the output's buffer, unless something was refused
 abbrev pub handed : Kind → Kind → List ℕ → List ℕ → Rowed → List ℕ
@@ -55,12 +60,17 @@ Ran from to = Chain (λ m. m .state .turns) (MovesBlock from to) MoveFails begin
 abbrev pub Runs : Kind → Kind → State → Type 0
 Runs from to r = ((bs : List (List ℕ)) × (written : List ℕ) × Ran from to bs (record { state = r; written = written })) × (r .turns ≡ 0)
 
--- what a run answers is the answer of all its blocks joined, and what was handed to a write is that migrated: the lowest bad sample decides
+-- the sample of a whole input that was refused
+abbrev pub refusedSample : Kind → List ℕ → Outcome Success → Found
+refusedSample from bytes answer = sampleBy (λ place. found.Is (sampleAt from bytes place)) answer
+
+-- what a run answers, hands to a write and tells of a refused sample is what all its blocks come to, joined: the lowest bad sample decides
 abbrev pub RunDecides : Type 0
 RunDecides =
     (from to : Kind) (bs : List (List ℕ)) (m : Moving) → Ran from to bs m → length (joined bs) < 2 ^ 64
     → (m .state .progress .samples ≡ countOf from (joined bs))
     × (mapped (λ d. m .written) (rowedOutcome (m .state .progress .answer)) ≡ migrateOf from to (joined bs))
+    × (m .state .sample ≡ refusedSample from (joined bs) (rowedOutcome (m .state .progress .answer)))
 
 -- ---- a report
 

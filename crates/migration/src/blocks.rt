@@ -1,12 +1,14 @@
 // The blocks of a file, one after the other.
-ghost use Prim.Native.Nat.{_*_, _/_, _%_, _≤_, _<_};
+ghost use Prim.Native.Nat.{_-_, _*_, _/_, _%_, _≤_, _<_};
 ghost use mathlib.Core.Path.{_≡_};
 ghost use lib.Dec.{eqb};
 ghost use lib.ListN.{length, take};
 ghost use Rattle.value.specs.Kinds.{bytesOf};
+ghost use Rattle.row.specs.Row.{rowedOutcome};
+ghost use Rattle.sample.specs.Samples.{sampleAt};
 ghost use Rattle.block.specs.Migrate.{StepTaken};
 ghost use Rattle.migration.specs.Sizes.{bufferBytes, blockBytes};
-ghost use Rattle.migration.specs.Steps.{MovedOn};
+ghost use Rattle.migration.specs.Steps.{MovedOn, foundOr, sampleAfter};
 ghost use Rattle.migration.specs.Inner.{Stepped};
 ghost use Rattle.migration.specs.Runs.{Runs};
 ghost use Rattle.migration.specs.Turns.{isNothing, turnsLeft, WritingOnly};
@@ -15,7 +17,9 @@ use block::ROW_PLACES;
 use block::convert_block;
 use input::Block;
 use input::read_block;
+use look::Found;
 use row::Rowed;
+use sample::sample_at;
 use value::Kind;
 use value::bytes_of;
 
@@ -31,9 +35,10 @@ pub enum Fault {
     Writing(i32),
 }
 
-// Where a run stands; `turns` is how many blocks may still be read, 0 once the input has ended.
+// Where a run stands; `sample` is the one that was refused, if one was, and `turns` how many blocks may still be read, 0 once the input has ended.
 pub struct State {
     pub progress: Progress,
+    pub sample: Found,
     pub fault: Fault,
     pub turns: u64,
 }
@@ -93,6 +98,7 @@ fn run_in(
 {
     let mut r = State {
         progress: start(),
+        sample: Found::Nothing,
         fault: Fault::Nothing,
         turns: u64::MAX,
     };
@@ -120,10 +126,12 @@ fn step(
     ensures step { λ next. ⌜ Stepped from to r (now (src .exit)) (now (dst .entry)) (now (dst .exit)) next ⌝ }
 {
     let before = r.progress;
+    let sample = r.sample;
     let got = read_block(input, block_bytes(from, to), src);
     if got.failed {
         return State {
             progress: before,
+            sample,
             fault: Fault::Reading(os::errno()),
             turns: 0,
         };
@@ -150,8 +158,45 @@ fn move_on(
     let fault = write_block(output, progress, from, to, dst, got.bytes);
     State {
         progress,
+        sample: sample_after(r, from, src, got.bytes, progress),
         fault,
         turns: turns_left(r.turns, got.full, fault),
+    }
+}
+
+// The sample that was refused, after a block: with Done there is none, and none with 9, bytes left over.
+fn sample_after(r: State, from: Kind, src: &[u8], bytes: usize, after: Progress) -> Found
+    requires { ⌜ bytes ≤ length (now src) ⌝ }
+    ensures { λ f. ⌜ f ≡ sampleAfter from r (take bytes (now (src .entry))) (rowedOutcome (after .answer)) ⌝ }
+{
+    let before = r.progress;
+    let kept = r.sample;
+    let answer = after.answer;
+    match answer {
+        Rowed::Done => Found::Nothing,
+        Rowed::Refused(f) => if f.number == 9 {
+            Found::Nothing
+        } else {
+            let i = index_behind(before.samples, f.place);
+            found_or(kept, from, &src[..bytes], i)
+        },
+    }
+}
+
+// The index of a place in bytes that come behind so many samples.
+fn index_behind(samples: usize, place: usize) -> usize
+    ensures { λ r. ⌜ r ≡ place - samples ⌝ }
+{
+    if samples < place { place - samples } else { 0 }
+}
+
+// What was found before, or else the sample at an index.
+fn found_or(kept: Found, from: Kind, src: &[u8], i: usize) -> Found
+    ensures { λ r. ⌜ r ≡ foundOr kept (sampleAt from (now (src .entry)) i) ⌝ }
+{
+    match kept {
+        Found::Is(_) => kept,
+        Found::Nothing => Found::Is(sample_at(from, src, i)),
     }
 }
 

@@ -19,18 +19,22 @@ write-block-requires c κs =
 
 returns : tie.Need-returns
 returns c =
-    let converted = c .before .before .before .before .before in
+    let written = c .before .before in
+    let converted = written .before .before .before .before in
     let s = converted .before .before .before .before in
     let a = s .args in (
       search needs,
       (
         s .pre .4,
         converted .convert .ensures,
-        c .before .write-block .ensures,
+        c .before .sample-after .ensures,
+        written .write-block .ensures,
         by-size (a .from) (a .to) (a .src .now) (a .got .bytes) (s .pre .1) (c .turns-left .result) (a .r .turns) (a .got .full)
-            (c .before .write-block .result) (c .turns-left .ensures .0) (s .pre .3),
+            (written .write-block .result) (c .turns-left .ensures .0) (s .pre .3),
       ),
     )
 
 pub move-on-spec : {M : Type 1} → statement M
-move-on-spec = tie.close (tie.spec (λ c κs. search needs) write-block-requires (λ c κs. search needs) (λ c. search needs) returns)
+move-on-spec =
+    tie.close
+    (tie.spec (λ c κs. search needs) write-block-requires (λ c κs. search needs) (λ c κs. search needs) (λ c. search needs) returns)

@@ -12,7 +12,7 @@ use Rattle.migration.proofs.blocks.step.Statement.{statement}
 use Rattle.migration.proofs.blocks.step.Tie as tie
 
 failed : tie.Need-returns
-failed c = (search needs, inl ((refl, refl, refl), refl))
+failed c = (search needs, inl ((refl, refl, refl, refl), refl))
 
 -- as much was asked for as a block has
 asked : (c : tie.After-read-block)
