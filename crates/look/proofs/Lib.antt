@@ -1,3 +1,4 @@
+pub mod ByBits
 pub mod Looking
 pub mod Best
 pub mod Looked

@@ -25,7 +25,7 @@ use Rattle.sample.specs.Samples.{countOf, leftOf, samplesOf, counted, joined}
 use Rattle.sample.specs.Refusals.{bitsTo, answerOf, refusedTo}
 use Rattle.sample.proofs.Samplings.{length-samples}
 use Rattle.sample.proofs.Joining.{left-joined, samples-of-joined, small, no-samples}
-use Rattle.look.specs.Report.{unlikeItself, lowerOf, higherOf, countIf, firstOf, notedOf, nothingSeen, allNoted, leftNoted, lookOf}
+use Rattle.look.specs.Report.{unlikeItself, infinite, minusZero, lowerOf, higherOf, countIf, firstOf, notedOf, nothingSeen, allNoted, leftNoted, lookOf}
 use Rattle.look.specs.ReportTheorem.{Parts, none, last, more, lookedAt, howMany, Best, Tells, LooksDecide}
 use Rattle.look.proofs.Best.{best-of, lower-strict, higher-strict}
 use Rattle.look.proofs.Looking.{noted-joined, noted-none, look-whole, look-left}
@@ -96,6 +96,14 @@ module _ (to : Kind) (s : Seen) (v : Value) where
   unfolding notedOf
   noted-nans = refl
 
+  noted-infinities : notedOf to s v .infinities ≡ countIf (infinite v) (s .infinities)
+  unfolding notedOf
+  noted-infinities = refl
+
+  noted-minus-zeros : notedOf to s v .«minus_zeros» ≡ countIf (minusZero v) (s .«minus_zeros»)
+  unfolding notedOf
+  noted-minus-zeros = refl
+
   noted-refusable : notedOf to s v .refusable ≡ countIf (refusedTo to v) (s .refusable)
   unfolding notedOf
   noted-refusable = refl
@@ -151,6 +159,12 @@ module _ (from to : Kind) (p : List ℕ) (short : length p < 2 ^ 64) where
   nans : all .nans ≡ howMany unlikeItself (samplesOf from p)
   nans = counted-all (λ (s : Seen). s .nans) unlikeItself (noted-nans to) refl
 
+  infinities : all .infinities ≡ howMany infinite (samplesOf from p)
+  infinities = counted-all (λ (s : Seen). s .infinities) infinite (noted-infinities to) refl
+
+  minus-zeros : all .«minus_zeros» ≡ howMany minusZero (samplesOf from p)
+  minus-zeros = counted-all (λ (s : Seen). s .«minus_zeros») minusZero (noted-minus-zeros to) refl
+
   refusable : all .refusable ≡ howMany (refusedTo to) (samplesOf from p)
   refusable = counted-all (λ (s : Seen). s .refusable) (refusedTo to) (noted-refusable to) refl
 
@@ -165,6 +179,8 @@ module _ (from to : Kind) (p : List ℕ) (short : length p < 2 ^ 64) where
   whole-tells ends = (
     many,
     nans,
+    infinities,
+    minus-zeros,
     lowest,
     highest,
     refusable,
@@ -177,6 +193,8 @@ module _ (from to : Kind) (p : List ℕ) (short : length p < 2 ^ 64) where
   left-tells some = (
     many,
     nans,
+    infinities,
+    minus-zeros,
     lowest,
     highest,
     refusable,

@@ -17,7 +17,8 @@ use Rattle.look.specs.declared.Found.the-variants.{Is, Nothing}
 use Rattle.look.specs.declared.Seen.{Seen}
 use Rattle.sample.specs.Samples.{leftOf, samplesOf}
 use Rattle.sample.specs.Refusals.{bitsTo, isRefused, refusalNumber, refusedTo}
-use Rattle.look.specs.Report.{says, unlikeItself, betterOf, lowerOf, higherOf, countIf, firstOf, notedOf, allNoted, leftNoted, lookOf}
+use Rattle.look.specs.Report.{says, unlikeItself, infinite, minusZero, betterOf, lowerOf, higherOf, countIf, firstOf}
+use Rattle.look.specs.Report.{notedOf, allNoted, leftNoted, lookOf}
 
 -- ---- one sample
 
@@ -47,12 +48,16 @@ pub first-good : (o : Outcome ℕ) (at : ℕ) {r : Rowed} → r ≡ rowed.Done �
 first-good o at p h = p ∙ given-first o at h ∙ sym (ap (λ (r : Rowed). firstOf r at o) p)
 
 module _ (to : Kind) (s : Seen) (v : Value) where
-  pub noted-is : {n m r : ℕ} {l h : Found} {a : Rowed}
-      → n ≡ countIf true (s .samples) → m ≡ countIf (unlikeItself v) (s .nans) → l ≡ lowerOf (s .lowest) v → h ≡ higherOf (s .highest) v
+  pub noted-is : {n m i z r : ℕ} {l h : Found} {a : Rowed}
+      → n ≡ countIf true (s .samples) → m ≡ countIf (unlikeItself v) (s .nans)
+      → i ≡ countIf (infinite v) (s .infinities) → z ≡ countIf (minusZero v) (s .«minus_zeros»)
+      → l ≡ lowerOf (s .lowest) v → h ≡ higherOf (s .highest) v
       → r ≡ countIf (refusedTo to v) (s .refusable) → a ≡ firstOf (s .answer) (s .samples) (bitsTo to v)
-      → _≡_ {A = Seen} (record { samples = n; nans = m; lowest = l; highest = h; refusable = r; answer = a }) (notedOf to s v)
+      → _≡_ {A = Seen}
+      (record { samples = n; nans = m; infinities = i; «minus_zeros» = z; lowest = l; highest = h; refusable = r; answer = a })
+      (notedOf to s v)
   unfolding notedOf
-  noted-is p q l h r a = rw (p, q, l, h, r, a) refl
+  noted-is p q i z l h r a = rw (p, q, i, z, l, h, r, a) refl
 
 -- ---- samples
 

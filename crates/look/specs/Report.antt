@@ -1,12 +1,15 @@
 -- What a report says of samples: a fold over them. RULES.md: Report.
 use Prim.Native.Nat.{ℕ, _+_}
-use mathlib.Core.Bool.{Bool, true, false, cond}
+use mathlib.Core.Bool.{Bool, true, false, _&&_, cond}
 use mathlib.Core.List.{List, [], _∷_}
 use lib.Dec.{eqb}
+use Rattle.float.specs.Number as exact
 use Rattle.value.specs.declared.Kind.{Kind}
 use Rattle.value.specs.declared.Value.{Value}
+use Rattle.value.specs.Meaning.{exactOf}
 use Rattle.value.specs.Outcome.{Outcome, gives, refuses}
 use Rattle.cmp.specs.Compare.{neOf, ltOf, gtOf}
+use Rattle.convert.specs.Convert.{isInfinite}
 use Rattle.row.specs.declared.Rowed.{Rowed}
 use Rattle.row.specs.declared.Rowed.the-variants as rowed
 use Rattle.look.specs.declared.Found.{Found}
@@ -25,6 +28,20 @@ says (refuses number place) = false
 -- a NaN is not equal to itself
 abbrev pub unlikeItself : Value → Bool
 unlikeItself v = says (neOf v v)
+
+-- a value that is an infinity, plus or minus
+abbrev pub infinite : Value → Bool
+infinite v = isInfinite (exactOf v)
+
+-- a zero with a minus sign
+abbrev pub isMinusZero : exact.Exact → Bool
+isMinusZero exact.notNumber = false
+isMinusZero (exact.infinite s) = false
+isMinusZero (exact.finite s m) = s && eqb m 0
+
+-- a value that is minus zero
+abbrev pub minusZero : Value → Bool
+minusZero v = isMinusZero (exactOf v)
 
 -- what was found so far, or a sample that passes a test against it; a NaN is never found
 abbrev pub betterOf : (Value → Value → Outcome Bool) → Found → Value → Found
@@ -54,6 +71,8 @@ unfoldable pub notedOf : Kind → Seen → Value → Seen
 notedOf to s v = record {
   samples = countIf true (s .samples);
   nans = countIf (unlikeItself v) (s .nans);
+  infinities = countIf (infinite v) (s .infinities);
+  «minus_zeros» = countIf (minusZero v) (s .«minus_zeros»);
   lowest = lowerOf (s .lowest) v;
   highest = higherOf (s .highest) v;
   refusable = countIf (refusedTo to v) (s .refusable);
@@ -64,7 +83,7 @@ notedOf to s v = record {
 
 -- before the first sample
 abbrev pub nothingSeen : Seen
-nothingSeen = record { samples = 0; nans = 0; lowest = Nothing; highest = Nothing; refusable = 0; answer = rowed.Done }
+nothingSeen = record { samples = 0; nans = 0; infinities = 0; «minus_zeros» = 0; lowest = Nothing; highest = Nothing; refusable = 0; answer = rowed.Done }
 
 -- the samples, one after the other
 unfoldable pub allNoted : Kind → Seen → List Value → Seen
@@ -76,6 +95,8 @@ abbrev pub leftNoted : Seen → Seen
 leftNoted s = record {
   samples = s .samples;
   nans = s .nans;
+  infinities = s .infinities;
+  «minus_zeros» = s .«minus_zeros»;
   lowest = s .lowest;
   highest = s .highest;
   refusable = s .refusable;

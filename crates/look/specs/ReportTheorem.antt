@@ -1,11 +1,15 @@
--- What the theorem on reports speaks of: an input that is looked at as blocks. RULES.md: Report.
+-- What the theorems on reports speak of: an input that is looked at as blocks, and the bits of what is counted. RULES.md: Report.
 use Prim.Native.Nat.{ℕ, suc, _^_, _<_}
 use mathlib.Core.Bool.{Bool, false, not, cond}
 use mathlib.Core.Path.{_≡_}
 use mathlib.Core.List.{List, [], _∷_}
+use lib.Dec.{eqb}
+use lib.Ieee.{binary32, binary64}
 use lib.ListN.{length, getD}
 use Rattle.value.specs.declared.Kind.{Kind}
 use Rattle.value.specs.declared.Value.{Value}
+use Rattle.value.specs.Kinds.{kindOf, Form, unsigned, signed, floating, formOf}
+use Rattle.value.specs.Meaning.{bitsOf}
 use Rattle.value.specs.Outcome.{Outcome}
 use Rattle.cmp.specs.Compare.{ltOf, gtOf}
 use Rattle.row.specs.Row.{rowedOutcome, any}
@@ -14,7 +18,7 @@ use Rattle.look.specs.declared.Found.the-variants.{Is, Nothing}
 use Rattle.look.specs.declared.Seen.{Seen}
 use Rattle.sample.specs.Samples.{countOf, leftOf, samplesOf, joined}
 use Rattle.sample.specs.Refusals.{answerOf, refusedTo}
-use Rattle.look.specs.Report.{says, unlikeItself, nothingSeen, lookOf}
+use Rattle.look.specs.Report.{says, unlikeItself, infinite, minusZero, nothingSeen, lookOf}
 
 -- every block but the last has whole samples only
 pub data Parts (from : Kind) : List (List ℕ) → Type 0 where
@@ -43,6 +47,8 @@ abbrev pub Tells : Kind → Kind → List ℕ → Seen → Type 0
 Tells from to bytes s =
     (s .samples ≡ countOf from bytes)
     × (s .nans ≡ howMany unlikeItself (samplesOf from bytes))
+    × (s .infinities ≡ howMany infinite (samplesOf from bytes))
+    × (s .«minus_zeros» ≡ howMany minusZero (samplesOf from bytes))
     × Best ltOf (samplesOf from bytes) (s .lowest)
     × Best gtOf (samplesOf from bytes) (s .highest)
     × (s .refusable ≡ howMany (refusedTo to) (samplesOf from bytes))
@@ -54,3 +60,26 @@ LooksDecide =
     (from to : Kind) (bs : List (List ℕ)) → Parts from bs → length (joined bs) < 2 ^ 64
     → (lookedAt from to nothingSeen bs ≡ lookOf from to nothingSeen (joined bs))
     × Tells from to (joined bs) (lookOf from to nothingSeen (joined bs))
+
+-- ---- what is counted, by its bits
+
+-- the bits of a form's two infinities; an integer has none
+abbrev pub infinitiesIn : Form → List ℕ
+infinitiesIn (unsigned n) = []
+infinitiesIn (signed n) = []
+infinitiesIn (floating binary32) = 0x7f80_0000 ∷ 0xff80_0000 ∷ []
+infinitiesIn (floating binary64) = 0x7ff0_0000_0000_0000 ∷ 0xfff0_0000_0000_0000 ∷ []
+
+-- the bits of a form's minus zero; an integer has none
+abbrev pub minusZerosIn : Form → List ℕ
+minusZerosIn (unsigned n) = []
+minusZerosIn (signed n) = []
+minusZerosIn (floating binary32) = 0x8000_0000 ∷ []
+minusZerosIn (floating binary64) = 0x8000_0000_0000_0000 ∷ []
+
+-- what is counted as an infinity and as minus zero are just the samples with these bits
+abbrev pub CountedByBits : Type 0
+CountedByBits =
+    (v : Value)
+    → (infinite v ≡ any (eqb (bitsOf v)) (infinitiesIn (formOf (kindOf v))))
+    × (minusZero v ≡ any (eqb (bitsOf v)) (minusZerosIn (formOf (kindOf v))))

@@ -13,11 +13,13 @@ pub enum Found {
     Nothing,
 }
 
-// What was seen of samples: how many there were, how many of them are NaN, the lowest and the highest, how many a conversion would refuse,
-// and what it would answer; before the first, none, Nothing and Done.
+// What was seen of samples: how many there were, how many of them are NaN, infinities and minus zeros, the lowest and the highest, how many
+// a conversion would refuse, and what it would answer; before the first, none, Nothing and Done.
 pub struct Seen {
     pub samples: usize,
     pub nans: usize,
+    pub infinities: usize,
+    pub minus_zeros: usize,
     pub lowest: Found,
     pub highest: Found,
     pub refusable: usize,

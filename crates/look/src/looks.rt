@@ -4,13 +4,15 @@ ghost use mathlib.Core.Bool.{cond};
 ghost use Rattle.cmp.specs.Compare.{testedOutcome};
 ghost use Rattle.sample.specs.Samples.{samplesOf};
 ghost use Rattle.sample.specs.Refusals.{bitsTo, refusedTo};
-ghost use Rattle.look.specs.Report.{says, unlikeItself, lowerOf, higherOf, countIf, firstOf, notedOf, allNoted, leftNoted, lookOf};
+ghost use Rattle.look.specs.Report.{says, unlikeItself, infinite, minusZero, lowerOf, higherOf, countIf, firstOf, notedOf, allNoted, leftNoted, lookOf};
 use crate::Found;
 use crate::Seen;
 use cmp::Tested;
 use cmp::gt;
 use cmp::lt;
 use cmp::ne;
+use float::is_infinite_f32;
+use float::is_infinite_f64;
 use row::Rowed;
 use sample::count;
 use sample::is_refused;
@@ -20,6 +22,8 @@ use std::num::wrapping_add_usize;
 use value::Kind;
 use value::Refusal;
 use value::Value;
+use value::bits_f32;
+use value::bits_f64;
 use value::bytes_of;
 
 fn is_yes(t: Tested) -> bool
@@ -35,6 +39,26 @@ fn is_nan(v: Value) -> bool
     ensures { λ r. ⌜ r ≡ unlikeItself v ⌝ }
 {
     is_yes(ne(v, v))
+}
+
+fn is_infinite(v: Value) -> bool
+    ensures { λ r. ⌜ r ≡ infinite v ⌝ }
+{
+    match v {
+        Value::F32(x, word) => is_infinite_f32(bits_f32(x, word)),
+        Value::F64(x, word) => is_infinite_f64(bits_f64(x, word)),
+        _ => false,
+    }
+}
+
+fn is_minus_zero(v: Value) -> bool
+    ensures { λ r. ⌜ r ≡ minusZero v ⌝ }
+{
+    match v {
+        Value::F32(x, word) => bits_f32(x, word) == 0x8000_0000,
+        Value::F64(x, word) => bits_f64(x, word) == 0x8000_0000_0000_0000,
+        _ => false,
+    }
 }
 
 fn chosen(t: bool, one: Found, other: Found) -> Found
@@ -96,6 +120,8 @@ fn noted(s: Seen, v: Value, to: Kind) -> Seen
     Seen {
         samples: count_if(true, s.samples),
         nans: count_if(is_nan(v), s.nans),
+        infinities: count_if(is_infinite(v), s.infinities),
+        minus_zeros: count_if(is_minus_zero(v), s.minus_zeros),
         lowest: lower(lowest, v),
         highest: higher(highest, v),
         refusable: count_if(bad, s.refusable),
@@ -124,6 +150,8 @@ fn left_noted(s: Seen) -> Seen
     Seen {
         samples: s.samples,
         nans: s.nans,
+        infinities: s.infinities,
+        minus_zeros: s.minus_zeros,
         lowest,
         highest,
         refusable: s.refusable,

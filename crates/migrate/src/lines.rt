@@ -1,4 +1,5 @@
 // The lines of an answer, on standard output.
+use crate::sentences::put_why;
 use libc::STDOUT_FILENO;
 use look::Found;
 use std::num::wrapping_add_u64;
@@ -8,6 +9,7 @@ use text::digits_of;
 use text::nth_word;
 use value::Kind;
 use value::Layout;
+use value::Refusal;
 use value::Value;
 use value::bits_of;
 use value::kind_number;
@@ -41,7 +43,7 @@ fn put_value(v: Value) {
     }
 }
 
-fn put_text(s: &[u8]) {
+pub(crate) fn put_text(s: &[u8]) {
     io::write_all(STDOUT_FILENO, s);
 }
 
@@ -64,6 +66,18 @@ fn put_bits(k: Kind, bits: u64) {
     put_text(nth_word(&KIND_NAMES, kind_number(k) as usize));
     put_text(b":");
     io::print_hex(STDOUT_FILENO, bits, digits_of(k));
+}
+
+// The number, the place, the sample if there is one, and what the number means.
+pub(crate) fn put_refusal(f: Refusal, sample: Found) {
+    put_number(b"refused=", f.number as u64);
+    put_number(b"place=", f.place as u64);
+    if let Found::Is(v) = sample {
+        put_text(b"sample=");
+        put_bits(kind_of(v), bits_of(v));
+        put_text(b"\n");
+    }
+    put_why(f.number);
 }
 
 // An argument that names no kind.

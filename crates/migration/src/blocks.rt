@@ -12,6 +12,9 @@ ghost use Rattle.migration.specs.Steps.{MovedOn, foundOr, sampleAfter};
 ghost use Rattle.migration.specs.Inner.{Stepped};
 ghost use Rattle.migration.specs.Runs.{Runs};
 ghost use Rattle.migration.specs.Turns.{isNothing, turnsLeft, WritingOnly};
+use crate::watches::Watch;
+use crate::watches::begun;
+use crate::watches::tell;
 use block::Progress;
 use block::ROW_PLACES;
 use block::convert_block;
@@ -77,12 +80,12 @@ fn start() -> Progress
 }
 
 // Moves the whole of input to output.
-pub fn run(input: i32, output: i32, from: Kind, to: Kind) -> State
+pub fn run(input: i32, output: i32, from: Kind, to: Kind, w: Watch) -> State
     ensures { λ r. ⌜ Runs from to r ⌝ }
 {
     let mut src = large_buffer();
     let mut dst = large_buffer();
-    run_in(input, output, from, to, &mut src, &mut dst)
+    run_in(input, output, from, to, &mut src, &mut dst, w)
 }
 
 // The same, in buffers for a block of input and one of output.
@@ -93,9 +96,11 @@ fn run_in(
     to: Kind,
     src: &mut Buffer,
     dst: &mut Buffer,
+    w: Watch,
 ) -> State
     ensures { λ r. ⌜ Runs from to r ⌝ }
 {
+    let mut watch = begun(w);
     let mut r = State {
         progress: start(),
         sample: Found::Nothing,
@@ -103,10 +108,9 @@ fn run_in(
         turns: u64::MAX,
     };
     while r.turns > 0 {
-        let before = r.progress;
         r = step(input, output, from, to, src, dst, r);
-        let after = r.progress;
-        put_progress(before.samples, after.samples);
+        let progress = r.progress;
+        watch = tell(watch, input, progress.samples);
     }
     r
 }
@@ -270,14 +274,5 @@ fn write_block(
             }
         }
         Rowed::Refused(_) => Fault::Nothing,
-    }
-}
-
-// A line on standard error whenever the samples pass a multiple of 2^27, so that a long run is seen to go on.
-pub(crate) fn put_progress(before: usize, after: usize) {
-    if before / 134217728 < after / 134217728 {
-        io::write_all(libc::STDERR_FILENO, b"samples so far: ");
-        io::print_decimal(libc::STDERR_FILENO, after as u64);
-        io::write_all(libc::STDERR_FILENO, b"\n");
     }
 }

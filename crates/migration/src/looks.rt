@@ -12,8 +12,10 @@ use crate::blocks::Buffer;
 use crate::blocks::Fault;
 use crate::blocks::block_bytes;
 use crate::blocks::large_buffer;
-use crate::blocks::put_progress;
 use crate::blocks::turns_left;
+use crate::watches::Watch;
+use crate::watches::begun;
+use crate::watches::tell;
 use input::Block;
 use input::read_block;
 use look::Found;
@@ -36,6 +38,8 @@ fn nothing_seen() -> Seen
     Seen {
         samples: 0,
         nans: 0,
+        infinities: 0,
+        minus_zeros: 0,
         lowest: Found::Nothing,
         highest: Found::Nothing,
         refusable: 0,
@@ -44,27 +48,27 @@ fn nothing_seen() -> Seen
 }
 
 // Looks at the whole of input.
-pub fn look_through(input: i32, from: Kind, to: Kind) -> Look
+pub fn look_through(input: i32, from: Kind, to: Kind, w: Watch) -> Look
     ensures { λ r. ⌜ Looks from to r ⌝ }
 {
     let mut src = large_buffer();
-    look_in(input, from, to, &mut src)
+    look_in(input, from, to, &mut src, w)
 }
 
 // The same, in a buffer for a block.
-fn look_in(input: i32, from: Kind, to: Kind, src: &mut Buffer) -> Look
+fn look_in(input: i32, from: Kind, to: Kind, src: &mut Buffer, w: Watch) -> Look
     ensures { λ r. ⌜ Looks from to r ⌝ }
 {
+    let mut watch = begun(w);
     let mut r = Look {
         seen: nothing_seen(),
         fault: Fault::Nothing,
         turns: u64::MAX,
     };
     while r.turns > 0 {
-        let before = r.seen;
         r = look_on(input, from, to, src, r);
-        let after = r.seen;
-        put_progress(before.samples, after.samples);
+        let seen = r.seen;
+        watch = tell(watch, input, seen.samples);
     }
     r
 }

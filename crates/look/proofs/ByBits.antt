@@ -1,0 +1,148 @@
+-- An infinity is told by abs alone. Minus zero has the sign bit and nothing else: of every other pattern with this bit abs is above 0, and so
+-- is the magnitude, which rises with it.
+use mathlib.Core.Path.{_≡_, refl, sym, _∙_, ap}
+use mathlib.Core.Bool.{Bool, true, false, _&&_, _||_}
+use mathlib.Core.Logic.{inl, inr}
+use mathlib.Core.List.{[]}
+use Prim.Native.Nat.{ℕ, suc, _+_, _-_, _*_, _≤_, _<_}
+use native.Mathlib.Nat.{zero-mul}
+use native.Mathlib.Omega.{arith}
+use borrow.Author.Tests.{lt-leb, le-leb, eq-eqb, ne-eqb}
+use lib.Dec.{T, eqb}
+use lib.IntN.{ℤ, pos, negsuc}
+use lib.Ieee.{Float, Format, binary32, binary64}
+use types.Run.{OneOf}
+use denote.Enum.Declared.{tagOf}
+use Rattle.float.specs.Format.{fractionOf, exponentOf, signOf, infOf, negativeOf, absOf, infiniteOf, magOf}
+use Rattle.float.specs.Number as exact
+use Rattle.float.specs.Order.{patternOf}
+use Rattle.float.proofs.Naturals.{lt-or-ge, three-ways}
+use Rattle.float.proofs.Magnitude.{abs-clear, abs-set, mag-rises, mag-zero}
+use Rattle.float.proofs.Comparing.{times-rises, pattern-nan, pattern-infinite, pattern-finite}
+use Rattle.value.specs.declared.Value.{Value}
+use Rattle.value.specs.declared.Value.the-variants.{U8, U16, U32, U64, I8, I16, I32, I64, F32, F64}
+use Rattle.value.specs.Kinds.{kindOf, allKinds, Form, unsigned, signed, floating, formOf, isInteger}
+use Rattle.value.specs.Meaning.{real, bitsOf, floatBits, exactIn, unit, stepOf, wholeOf}
+use Rattle.value.proofs.Value.{the-type}
+use Rattle.value.proofs.Units.{unit-pos, step-pos}
+use Rattle.cmp.proofs.KindTests.{keysIn, by-keys}
+use Rattle.convert.specs.Convert.{isInfinite}
+use Rattle.convert.proofs.Patterns.{inf-range}
+use Rattle.row.specs.Row.{any}
+use Rattle.look.specs.Report.{infinite, isMinusZero, minusZero}
+use Rattle.look.specs.ReportTheorem.{infinitiesIn, minusZerosIn, CountedByBits}
+
+-- ---- a pattern of a format, in units of k
+
+module _ (k p e b : ℕ) where
+  -- what it stands for decides
+  meant : {x : exact.Exact} (test : exact.Exact → Bool) → patternOf p e b ≡ x → test (exact.times k (patternOf p e b)) ≡ test (exact.times k x)
+  meant test q = ap (λ (y : exact.Exact). test (exact.times k y)) q
+
+  infinite-pattern : isInfinite (exact.times k (patternOf p e b)) ≡ infiniteOf p e b
+  infinite-pattern = elim (three-ways (absOf p e b) (infOf p e)) [
+    | inl l ↦ meant isInfinite (pattern-finite p e b l) ∙ sym (ne-eqb (absOf p e b) (infOf p e) (λ q. omega arith))
+    | inr (inl q) ↦ meant isInfinite (pattern-infinite p e b q) ∙ sym (eq-eqb (absOf p e b) (infOf p e) q)
+    | inr (inr g) ↦ meant isInfinite (pattern-nan p e b g) ∙ sym (ne-eqb (absOf p e b) (infOf p e) (λ q. omega arith))
+  ]
+
+  no-minus-zero : (s : Bool) → negativeOf p e b ≡ s → (s && eqb (magOf p (absOf p e b) * k) 0) ≡ false
+      → isMinusZero (exact.times k (patternOf p e b)) ≡ false
+  no-minus-zero s q h = elim (three-ways (absOf p e b) (infOf p e)) [
+    | inl l ↦ meant isMinusZero (pattern-finite p e b l) ∙ ap (λ (t : Bool). t && eqb (magOf p (absOf p e b) * k) 0) q ∙ h
+    | inr (inl i) ↦ meant isMinusZero (pattern-infinite p e b i)
+    | inr (inr g) ↦ meant isMinusZero (pattern-nan p e b g)
+  ]
+
+  minus-zero-pattern : 0 < k → 0 < infOf p e → isMinusZero (exact.times k (patternOf p e b)) ≡ eqb b (signOf p e)
+  minus-zero-pattern some h = elim (three-ways b (signOf p e)) [
+    | inl l ↦ no-minus-zero false (lt-leb (signOf p e) b l) refl ∙ sym (ne-eqb b (signOf p e) (λ q. omega arith))
+    | inr (inl q) ↦
+        let set : signOf p e ≤ b = omega arith in
+        let a : absOf p e b ≡ 0 = abs-set p e b set ∙ omega arith in
+        let zero : isMinusZero (exact.times k (exact.finite (negativeOf p e b) (magOf p (absOf p e b)))) ≡ true =
+        simp (le-leb (signOf p e) b set, a, mag-zero p, zero-mul) in
+        meant isMinusZero (pattern-finite p e b (omega arith)) ∙ zero ∙ sym (eq-eqb b (signOf p e) q)
+    | inr (inr g) ↦
+        let set : signOf p e ≤ b = omega arith in
+        let a : 0 < absOf p e b = omega (arith, abs-set p e b set) in
+        let m : 0 * k < magOf p (absOf p e b) * k = times-rises k some 0 (magOf p (absOf p e b)) (omega (arith, mag-zero p, mag-rises p 0 (absOf p e b) a)) in
+        no-minus-zero true (le-leb (signOf p e) b set) (ne-eqb (magOf p (absOf p e b) * k) 0 (λ q. omega arith))
+        ∙ sym (ne-eqb b (signOf p e) (λ q. omega arith))
+  ]
+
+or-none : (t : Bool) → t ≡ (t || false)
+or-none true = refl
+or-none false = refl
+
+-- abs is the infinity's: with the sign bit or without it
+module _ (p e b : ℕ) where
+  with-sign : signOf p e ≤ b → eqb (b - signOf p e) (infOf p e) ≡ (eqb b (signOf p e + infOf p e) || false)
+  with-sign g = elim (three-ways b (signOf p e + infOf p e)) [
+    | inl l ↦ rw (ne-eqb b (signOf p e + infOf p e) (λ q. omega arith)) (ne-eqb (b - signOf p e) (infOf p e) (λ q. omega arith))
+    | inr (inl q) ↦ rw (eq-eqb b (signOf p e + infOf p e) q) (eq-eqb (b - signOf p e) (infOf p e) (omega arith))
+    | inr (inr m) ↦ rw (ne-eqb b (signOf p e + infOf p e) (λ q. omega arith)) (ne-eqb (b - signOf p e) (infOf p e) (λ q. omega arith))
+  ]
+
+  infinite-bits : infOf p e < signOf p e → infiniteOf p e b ≡ (eqb b (infOf p e) || (eqb b (signOf p e + infOf p e) || false))
+  infinite-bits below = elim (lt-or-ge b (signOf p e)) [
+    | inl l ↦ rw (abs-clear p e b l, ne-eqb b (signOf p e + infOf p e) (λ q. omega arith)) (or-none (eqb b (infOf p e)))
+    | inr g ↦ rw (abs-set p e b g, ne-eqb b (infOf p e) (λ q. omega arith)) (with-sign g)
+  ]
+
+-- ---- a float, and an integer
+
+module _ (f : Format) (x : Float) (w : ℕ) {b : ℕ} (bits : b ≡ floatBits f x w) where
+  pub infinite-float : infiniteOf (fractionOf f) (exponentOf f) b ≡ isInfinite (exactIn (real f x w))
+  infinite-float =
+      ap (infiniteOf (fractionOf f) (exponentOf f)) bits ∙ sym (infinite-pattern (stepOf f) (fractionOf f) (exponentOf f) (floatBits f x w))
+
+  pub minus-zero-float : eqb b (signOf (fractionOf f) (exponentOf f)) ≡ isMinusZero (exactIn (real f x w))
+  minus-zero-float =
+      ap (λ (n : ℕ). eqb n (signOf (fractionOf f) (exponentOf f))) bits
+      ∙ sym (minus-zero-pattern (stepOf f) (fractionOf f) (exponentOf f) (floatBits f x w) (step-pos f) (inf-range f .0))
+
+-- below 0 the magnitude is above 0
+neither : (z : ℤ) → (isInfinite (exact.times unit (wholeOf z)) ≡ false) × (isMinusZero (exact.times unit (wholeOf z)) ≡ false)
+neither (pos n) = (refl, refl)
+neither (negsuc n) = (refl, ne-eqb (suc n * unit) 0 (λ q. omega (arith, times-rises unit unit-pos 0 (suc n) (omega arith))))
+
+-- ---- a value
+
+pub counted-by-bits : CountedByBits
+unfolding any
+counted-by-bits (U8 n) = neither (pos n)
+counted-by-bits (U16 n) = neither (pos n)
+counted-by-bits (U32 n) = neither (pos n)
+counted-by-bits (U64 n) = neither (pos n)
+counted-by-bits (I8 z) = neither z
+counted-by-bits (I16 z) = neither z
+counted-by-bits (I32 z) = neither z
+counted-by-bits (I64 z) = neither z
+counted-by-bits (F32 x w) = (
+  sym (infinite-float binary32 x w refl) ∙ infinite-bits 23 8 (floatBits binary32 x w) (inf-range binary32 .1),
+  sym (minus-zero-float binary32 x w refl) ∙ or-none (eqb (floatBits binary32 x w) (signOf 23 8)),
+)
+counted-by-bits (F64 x w) = (
+  sym (infinite-float binary64 x w refl) ∙ infinite-bits 52 11 (floatBits binary64 x w) (inf-range binary64 .1),
+  sym (minus-zero-float binary64 x w refl) ∙ or-none (eqb (floatBits binary64 x w) (signOf 52 11)),
+)
+
+-- ---- the arm of the integer kinds: they have no such bits
+
+no-bits : (form : Form) → T (isInteger form) → (infinitiesIn form ≡ []) × (minusZerosIn form ≡ [])
+no-bits (unsigned n) t = (refl, refl)
+no-bits (signed n) t = (refl, refl)
+no-bits (floating f) t = absurd t
+
+module _ (v : Value) (o : OneOf (keysIn (λ k. isInteger (formOf k)) allKinds) (tagOf the-type v)) where
+  none : (infinitiesIn (formOf (kindOf v)) ≡ []) × (minusZerosIn (formOf (kindOf v)) ≡ [])
+  none = no-bits (formOf (kindOf v)) (by-keys (λ k. isInteger (formOf k)) v o)
+
+  pub infinite-integer : false ≡ infinite v
+  unfolding any
+  infinite-integer = sym (counted-by-bits v .0 ∙ ap (any (eqb (bitsOf v))) (none .0))
+
+  pub minus-zero-integer : false ≡ minusZero v
+  unfolding any
+  minus-zero-integer = sym (counted-by-bits v .1 ∙ ap (any (eqb (bitsOf v))) (none .1))
