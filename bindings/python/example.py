@@ -84,6 +84,7 @@ def records():
     print("a byte too few:", tried(silamogo.key_read, shape, key[1:]))
     print("a NaN:", tried(silamogo.key_read, shape, key[:4] + b"\xff" * 4))
     print("a short buffer:", tried(silamogo.key_write, tile, bytearray(7)))
+    print("both keys:", [key.hex() for key in silamogo.keys(shape, array("Q", [s.bits for s in tile + other]))])
 
 
 rows()

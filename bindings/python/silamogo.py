@@ -6,16 +6,19 @@ The shared library is looked for at the path in SILAMOGO_LIBRARY, or beside this
     gcc -shared -o target/libsilamogo.so -Wl,--whole-archive target/staticlib/libsilamogo.a -Wl,--no-whole-archive
 
 A call gives its result or raises Refusal, with the number and the place of docs/RULES.md; after it everything that was lent is as it was.
-A row is any object with the buffer protocol (array.array, bytearray, memoryview, a NumPy array; bytes to read from), contiguous and of
-the kind's own item format, or of plain bytes in the machine's order; it is lent, never copied, and no other thread may change it meanwhile.
+A row is any object with the buffer protocol, contiguous; it is lent, never copied, and no other thread may change it meanwhile.
+
+- The items of array.array, NumPy arrays, ctypes arrays and memoryviews of these have to be the row's own: `H` for u16, and not `B` or `h`.
+- Raw bytes, that is bytes (to read from), bytearray and memoryviews of these, are taken as items of any kind, low byte first.
 """
 
 import struct
 from collections import namedtuple
 from enum import IntEnum
-from operator import index
+from fractions import Fraction
+from numbers import Rational, Real
 
-from silamogo_boundary import Refusal, Row, ask, passed, word, words
+from silamogo_boundary import Refusal, Row, ask, keys_of, parts, passed, word, words
 
 Kind = IntEnum("Kind", ["U8", "U16", "U32", "U64", "I8", "I16", "I32", "I64", "F32", "F64"], start=0)
 Order = IntEnum("Order", ["LESS", "EQUAL", "GREATER", "UNORDERED"], start=0)
@@ -30,39 +33,81 @@ class Sample(namedtuple("Sample", ["kind", "bits"])):
     __slots__ = ()
 
     def __repr__(self):
-        return f"Sample({self.kind!s}, {self.bits:#x})"
+        kind = f"Kind.{Kind(self.kind).name}" if self.kind in [*Kind] else repr(self.kind)
+        bits = hex(self.bits) if isinstance(self.bits, int) else repr(self.bits)
+        return f"Sample({kind}, {bits})"
 
 
 # Samples.
 
 
 def sample(kind, number):
-    """The sample of an int or a float. A number that the kind doesn't have is refused as by conversion."""
-    kind = Kind(kind)
-    if kind >= Kind.F32:
-        x = float(number)
-        if x != number and number == number:
-            raise Refusal(5, 0)
-        return convert(Sample(Kind.F64, struct.unpack("<Q", struct.pack("<d", x))[0]), kind)
-    bits = _bits(kind)
-    least = 0 if kind < Kind.I8 else -(1 << (bits - 1))
-    if not least <= index(number) < least + (1 << bits):
+    """The sample that has exactly this number: an int, a float, a Fraction, or one of NumPy's. Refused as by conversion, so with 3 for a
+    fraction in an integer kind, 4 beyond the kind's range, 5 for a number that a float kind lacks; 7 for a kind that names none."""
+    kind = _kind(kind)
+    if isinstance(number, float):
+        return _from_f64(number, kind)
+    try:
+        exact = Fraction(*_ratio(number))
+    except OverflowError:  # an infinity
+        return _from_f64(float(number), kind)
+    except ValueError:  # a NaN
+        raise Refusal(1, 0) from None
+    if kind < Kind.F32:
+        return _whole(exact, kind)
+    if abs(exact) > _LARGEST[kind]:
         raise Refusal(4, 0)
-    return Sample(kind, index(number) & ((1 << bits) - 1))
+    x = float(exact or number)  # minus zero stays
+    if x != exact:
+        raise Refusal(5, 0)
+    return _from_f64(x, kind)
 
 
 def number(s):
-    """The int or float that a sample stands for."""
-    kind, bits = Kind(s.kind), _bits(s.kind)
+    """The int or float that a sample stands for; 7 for a kind that names none, 4 for bits that the kind doesn't have."""
+    own = passed(s)
+    kind, bits = _given(ask("convert", own, own.kind))
+    width = _bits(kind)
     if kind >= Kind.F32:
-        layout = {32: ("<I", "<f"), 64: ("<Q", "<d")}[bits]
-        return struct.unpack(layout[1], struct.pack(layout[0], s.bits))[0]
-    negative = kind >= Kind.I8 and s.bits >> (bits - 1)
-    return s.bits - (1 << bits) if negative else s.bits
+        layout = {32: ("<I", "<f"), 64: ("<Q", "<d")}[width]
+        return struct.unpack(layout[1], struct.pack(layout[0], bits))[0]
+    negative = kind >= Kind.I8 and bits >> (width - 1)
+    return bits - (1 << width) if negative else bits
 
 
 def _bits(kind):
     return [8, 16, 32, 64, 8, 16, 32, 64, 32, 64][kind]
+
+
+_LARGEST = {Kind.F32: (2**24 - 1) << 104, Kind.F64: (2**53 - 1) << 971}  # finite number of a float kind
+
+
+def _kind(kind):
+    try:
+        return Kind(word(kind, 8))
+    except ValueError:
+        raise Refusal(7, 0) from None
+
+
+def _ratio(number):
+    """A number as a whole one over another. A bool is no number of a sample, nor is a string."""
+    if isinstance(number, bool) or not isinstance(number, Real):
+        raise TypeError(f"a number is taken, not {number!r}")
+    return (int(number.numerator), int(number.denominator)) if isinstance(number, Rational) else number.as_integer_ratio()
+
+
+def _from_f64(x, kind):
+    return convert(Sample(Kind.F64, struct.unpack("<Q", struct.pack("<d", x))[0]), kind)
+
+
+def _whole(exact, kind):
+    if exact.denominator != 1:
+        raise Refusal(3, 0)
+    bits = _bits(kind)
+    least = 0 if kind < Kind.I8 else -(1 << (bits - 1))
+    if not least <= exact < least + (1 << bits):
+        raise Refusal(4, 0)
+    return Sample(kind, exact.numerator & ((1 << bits) - 1))
 
 
 def classify(s):
@@ -109,7 +154,7 @@ def convert(s, to):
     return _given(ask("convert", passed(s), word(to, 8)))
 
 
-# Rows.
+# Rows. Arrays of as many samples and another shape are a ValueError.
 
 
 def _convert_row(name, src, src_item, dst, dst_item):
@@ -117,6 +162,8 @@ def _convert_row(name, src, src_item, dst, dst_item):
         slices = *source.slice, *target.slice
         if source.overlaps(target):
             raise ValueError("the rows overlap")
+        if len(source) == len(target) and not source.shaped_like(target):
+            raise ValueError(f"rows of shapes {source.shape} and {target.shape}")
         ask(name, *slices)
 
 
@@ -147,14 +194,15 @@ def row_clamp(row, lower, upper):
 
 
 def _bound(x):
-    return number(sample(Kind.F32, x)) if x == x else x
+    return float(x) if x != x else number(sample(Kind.F32, x))
 
 
-# Records: a sequence of samples; a shape is a sequence of kinds.
+# Records: any samples in order; a shape is any kinds in order.
 
 
 def _record(record):
-    kinds, bits = words([s.kind for s in record], 8), words([s.bits for s in record], 64)
+    fields = [parts(s) for s in record]
+    kinds, bits = words([kind for kind, _ in fields], 8), words([bits for _, bits in fields], 64)
     return kinds, len(kinds), bits, len(bits)
 
 
@@ -177,7 +225,51 @@ def key(record):
 
 def key_read(shape, key):
     """The record of a key; 11 for the count, 9 for the key's length, 12 at the first field that no key has."""
-    kinds, bits = words(shape, 8), words([0] * len(shape), 64)
+    kinds = words(shape, 8)
+    bits = words([0] * len(kinds), 64)
     with Row(key, "B") as lent:
         ask("key_read", kinds, len(kinds), *lent.slice, bits, len(bits))
-    return [Sample(Kind(kind), word) for kind, word in zip(shape, bits)]
+    return [Sample(Kind(kind), word) for kind, word in zip(kinds, bits)]
+
+
+# The keys of many records of one shape. The bits are a row of 64-bit words, record by record (array("Q"), NumPy's uint64, raw bytes); an array
+# of more dimensions has a record in each of its last lines, or is a ValueError.
+
+
+def keys_write(shape, bits, buffer, lengths):
+    """The keys of as many records as there are 64-bit words in `lengths`, which get the lengths. Key i begins at i times the bytes of the
+    shape's longest key, with 00 behind it if it is shorter; bytes behind the last stay. 7 for a kind that names none, 9 for bits that aren't
+    so many records, 11 for the count, 10 for the buffer; then of the first record that has one 4 or 1, at the index of its bits."""
+    kinds = words(shape, 8)
+    with Row(bits, "Q") as given, Row(buffer, "B", writable=True) as lent, Row(lengths, "Q", writable=True) as told:
+        if given.overlaps(lent) or given.overlaps(told) or lent.overlaps(told):
+            raise ValueError("the rows overlap")
+        longest = _longest_key(kinds, given, len(told))
+        if len(lent) < len(told) * longest:
+            raise Refusal(10, 0)
+        lent.in_lines_of(longest)
+        written, measured = keys_of(kinds, given, len(told), longest)
+        lent.take(written)
+        told.take(measured)
+
+
+def keys(shape, bits):
+    """The keys of all records that the bits are of, as a list of bytes; refused as by keys_write."""
+    kinds = words(shape, 8)
+    with Row(bits, "Q") as given:
+        count = len(given) // max(len(kinds), 1)
+        longest = _longest_key(kinds, given, count)
+        written, lengths = keys_of(kinds, given, count, longest)
+    written = bytes(written)
+    return [written[at : at + length] for at, length in zip(range(0, len(written), longest), lengths)]
+
+
+def _longest_key(kinds, bits, count):
+    """In bytes, as the key of zeros has them; 7, 9 and 11 as in keys_write."""
+    if not {*kinds} <= {*Kind}:
+        raise Refusal(7, 0)
+    if len(bits) != count * len(kinds):
+        raise Refusal(9, 0)
+    longest = len(key(Sample(kind, 0) for kind in kinds))
+    bits.in_lines_of(len(kinds))
+    return longest

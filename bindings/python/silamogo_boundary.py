@@ -2,6 +2,8 @@
 
 import ctypes
 import os
+from array import array
+from itertools import repeat
 from operator import index
 from pathlib import Path
 
@@ -30,7 +32,8 @@ class Refusal(Exception):
         self.place = place
 
     def __str__(self):
-        return f"refused with {self.number} at {self.place}: {SENTENCES[self.number]}"
+        sentence = SENTENCES.get(self.number, "a refusal that has no sentence here")
+        return f"refused with {self.number} at {self.place}: {sentence}"
 
 
 # What the boundary gives and takes, as include/silamogo.h has it.
@@ -112,8 +115,17 @@ def words(numbers, bits):
     return ({8: ctypes.c_uint8, 64: ctypes.c_uint64}[bits] * len(numbers))(*numbers)
 
 
+def parts(s):
+    """The kind and the bits of a sample."""
+    try:
+        return s.kind, s.bits
+    except AttributeError:
+        raise TypeError(f"a sample is taken, not {s!r}") from None
+
+
 def passed(s):
-    return _Sample(word(s.kind, 8), word(s.bits, 64))
+    kind, bits = parts(s)
+    return _Sample(word(kind, 8), word(bits, 64))
 
 
 # Lent memory.
@@ -124,7 +136,7 @@ class _Buffer(ctypes.Structure):
 
     _fields_ = [
         ("buf", ctypes.c_void_p), ("obj", ctypes.c_void_p), ("len", ctypes.c_ssize_t), ("itemsize", ctypes.c_ssize_t),
-        ("readonly", ctypes.c_int), ("ndim", ctypes.c_int), ("format", ctypes.c_char_p), ("shape", ctypes.c_void_p),
+        ("readonly", ctypes.c_int), ("ndim", ctypes.c_int), ("format", ctypes.c_char_p), ("shape", ctypes.POINTER(ctypes.c_ssize_t)),
         ("strides", ctypes.c_void_p), ("suboffsets", ctypes.c_void_p), ("internal", ctypes.c_void_p),
     ]
 
@@ -135,14 +147,18 @@ _get_buffer.argtypes = [ctypes.py_object, ctypes.POINTER(_Buffer), ctypes.c_int]
 _release_buffer = ctypes.pythonapi.PyBuffer_Release
 _release_buffer.argtypes = [ctypes.POINTER(_Buffer)]
 
-_BYTES = {"B": 1, "H": 2, "f": 4}  # of an item, by its format
+_BYTES = {"B": 1, "H": 2, "f": 4, "Q": 8}  # of an item, by its format
 
 
 class Row:
-    """An object's memory while it is lent: BufferError unless it is contiguous, and writable where it is to be written."""
+    """An object's memory while it is lent: BufferError unless it is contiguous, and writable where it is to be written.
+
+    bytes, bytearray and memoryviews of them are raw: their bytes are items of any kind, and in one dimension they have no shape. Every other
+    object says of what items it is, and these have to be the row's own."""
 
     def __init__(self, row, item, writable=False):
         self.buffer, self.item, self.size = _Buffer(), item, _BYTES[item]
+        self.raw = isinstance(row.obj if isinstance(row, memoryview) else row, (bytes, bytearray))
         _get_buffer(row, self.buffer, _CONTIGUOUS | _FORMAT | (_WRITABLE if writable else 0))
 
     def __enter__(self):
@@ -152,15 +168,66 @@ class Row:
         _release_buffer(self.buffer)
 
     @property
+    def format(self):
+        """Of an item, without the sign of this machine's byte order; `L`, which is NumPy's u64, as `Q`."""
+        given = (self.buffer.format or b"B").decode()
+        given = given[1:] if given[0] in "@=<" else given
+        return "Q" if given == "L" else given
+
+    @property
     def slice(self):
-        """Pointer and length; an object whose items are of another kind is a TypeError."""
-        given = (self.buffer.format or b"B").decode().lstrip("@=<")
-        if given not in (self.item, "B", "c"):
-            raise TypeError(f"a row of items {given!r}, where {self.item!r} or plain bytes are taken")
+        """Pointer and length; TypeError for items of another kind, ValueError for bytes that aren't whole or aligned items."""
+        own = self.format == self.item and self.buffer.itemsize == self.size
+        if not own and not (self.raw and self.format == "B"):
+            raise TypeError(f"a row of items {self.format!r}, where {self.item!r} is taken; raw bytes are those of bytes and bytearray alone")
         if self.buffer.len % self.size or (self.buffer.len and self.buffer.buf % self.size):
-            raise ValueError(f"plain bytes that aren't whole or aligned items of {self.size} bytes")
+            raise ValueError(f"a row that isn't of whole, aligned items of {self.size} bytes")
         return self.buffer.buf, self.buffer.len // self.size
+
+    def __len__(self):
+        return self.slice[1]
+
+    @property
+    def shape(self):
+        """The lengths of an array's dimensions, None for raw bytes."""
+        return None if self.raw and self.buffer.ndim == 1 else tuple(self.buffer.shape[: self.buffer.ndim])
+
+    def shaped_like(self, other):
+        return None in (self.shape, other.shape) or self.shape == other.shape
+
+    def in_lines_of(self, length):
+        """ValueError for an array whose last dimension is another one: what belongs together would lie across its lines."""
+        if self.buffer.ndim > 1 and self.shape[-1] != length:
+            raise ValueError(f"an array of shape {self.shape}, where lines of {length} are taken")
 
     def overlaps(self, other):
         a, b = self.buffer, other.buffer
         return a.len and b.len and a.buf < b.buf + b.len and b.buf < a.buf + a.len
+
+    def take(self, other):
+        """Copies an array of bytes or words to the start."""
+        with Row(other, self.item) as source:
+            ctypes.memmove(self.buffer.buf, source.buffer.buf, source.buffer.len)
+
+
+# Many keys.
+
+
+def keys_of(kinds, bits, count, longest):
+    """The keys of so many records, each at its multiple of the longest, and their lengths. A record costs one call, and what all calls share is
+    made once. The place of a refusal is the index into the bits of all records."""
+    fields, room, step = ctypes.c_size_t(len(kinds)), ctypes.c_size_t(longest), 8 * len(kinds)
+    keys, lengths = bytearray(count * longest), array("Q", bytes(8 * count))
+    with Row(keys, "B", writable=True) as lent:
+        (start, _), (end, _) = bits.slice, lent.slice
+        answers = map(
+            _calls.silamogo_key_write,
+            repeat(ctypes.cast(kinds, ctypes.c_void_p)), repeat(fields),
+            range(start, start + count * step, step), repeat(fields),
+            range(end, end + count * longest, longest), repeat(room),
+        )
+        for record, answer in enumerate(answers):
+            if answer.number:
+                raise Refusal(answer.number, record * len(kinds) + answer.place)
+            lengths[record] = answer.length
+    return keys, lengths

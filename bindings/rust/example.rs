@@ -64,6 +64,10 @@ fn records() -> silamogo::Result<()> {
     println!("a byte too few: {:?}", silamogo::key_read(&shape, &key[1..], &mut fields));
     key[4..].fill(0xff);
     println!("a NaN: {:?}", silamogo::key_read(&shape, key, &mut fields));
+
+    let (mut keys, mut lengths) = ([0; 16], [0; 2]);
+    silamogo::keys_write(&shape, &[tile, next].concat(), &mut keys, &mut lengths)?;
+    println!("both keys: {keys:02x?}, lengths {lengths:?}");
     Ok(())
 }
 

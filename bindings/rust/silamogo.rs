@@ -1,8 +1,8 @@
 //! Silamogo from Rust: a safe wrapper around the boundary, in one file for `mod silamogo;`, with the standard library alone.
-//! Link with `-L native=target/staticlib`, where `rt staticlib silamogo` writes the proved library.
+//! Edition 2021 or later; link with `-L native=target/staticlib`, where `rt staticlib silamogo` writes the proved library.
 //!
 //! A call gives its result or the refusal with its number and place; after a refusal everything that was lent is as it was. No call
-//! panics, allocates or keeps what it was lent. docs/RULES.md has the rules.
+//! panics or keeps what it was lent, and none but `keys_write` allocates. docs/RULES.md has the rules.
 #![allow(dead_code)] // a program may use a part
 
 use std::cmp::Ordering;
@@ -28,6 +28,9 @@ impl Kind {
     pub const ALL: [Kind; 10] =
         [Kind::U8, Kind::U16, Kind::U32, Kind::U64, Kind::I8, Kind::I16, Kind::I32, Kind::I64, Kind::F32, Kind::F64];
 }
+
+/// The longest key: 12 fields of 8 bytes.
+pub const LONGEST_KEY: usize = 96;
 
 /// A kind and the bits of a number of that kind, a signed one in two's complement of its own width; the bits above are 0, else every call
 /// refuses the sample with 4. `Sample::from` makes one from a number, and `try_from` gives the number by exact conversion.
@@ -163,6 +166,29 @@ pub fn record_compare(a_kinds: &[Kind], a_bits: &[u64], b_kinds: &[Kind], b_bits
 pub fn key_write(kinds: &[Kind], bits: &[u64], buffer: &mut [u8]) -> Result<usize> {
     let kind_numbers = kinds.as_ptr().cast::<u8>();
     given(unsafe { c::silamogo_key_write(kind_numbers, kinds.len(), bits.as_ptr(), bits.len(), buffer.as_mut_ptr(), buffer.len()) })
+}
+
+/// The keys of as many records of one shape as there are `lengths`, which get the lengths; `bits` has the records one behind the other. Key i
+/// begins at i times the bytes of the shape's longest key, with 00 behind it if it is shorter; bytes behind the last stay. 9 for bits that
+/// aren't so many records, 11 for the count, 10 for the buffer; then of the first record that has one 4 or 1, at the index of its bits.
+pub fn keys_write(shape: &[Kind], bits: &[u64], buffer: &mut [u8], lengths: &mut [u64]) -> Result<()> {
+    let (count, fields) = (lengths.len(), shape.len());
+    if count.checked_mul(fields) != Some(bits.len()) {
+        return Err(Refusal { number: 9, place: 0 });
+    }
+    let longest = key_write(shape, &vec![0; fields], &mut [0; LONGEST_KEY])?; // the key of zeros is as long; 11
+    if buffer.len() / longest < count {
+        return Err(Refusal { number: 10, place: 0 });
+    }
+    let (mut keys, mut measured) = (vec![0; count * longest], vec![0; count]);
+    let records = bits.chunks_exact(fields).zip(keys.chunks_exact_mut(longest)).zip(&mut measured);
+    for (record, ((bits, key), length)) in records.enumerate() {
+        let written = key_write(shape, bits, key).map_err(|refusal| Refusal { place: record * fields + refusal.place, ..refusal })?;
+        *length = written as u64;
+    }
+    buffer[..keys.len()].copy_from_slice(&keys);
+    lengths.copy_from_slice(&measured);
+    Ok(())
 }
 
 /// The bits of a key's fields. 9 for kinds and bits of two lengths, 11 for the count, 9 for the key's length, 12 at the first field that
