@@ -16,7 +16,7 @@ import struct
 from collections import namedtuple
 from enum import IntEnum
 from fractions import Fraction
-from numbers import Rational, Real
+from numbers import Integral, Rational, Real
 
 from silamogo_boundary import Refusal, Row, ask, keys_of, parts, passed, word, words
 
@@ -48,7 +48,7 @@ def sample(kind, number):
     if isinstance(number, float):
         return _from_f64(number, kind)
     try:
-        exact = Fraction(*_ratio(number))
+        exact = _exact(number)
     except OverflowError:  # an infinity
         return _from_f64(float(number), kind)
     except ValueError:  # a NaN
@@ -89,11 +89,13 @@ def _kind(kind):
         raise Refusal(7, 0) from None
 
 
-def _ratio(number):
-    """A number as a whole one over another. A bool is no number of a sample, nor is a string."""
+def _exact(number):
+    """A number as an int or a Fraction; ValueError for a NaN, OverflowError for an infinity. A bool is no number of a sample, nor is a string."""
     if isinstance(number, bool) or not isinstance(number, Real):
         raise TypeError(f"a number is taken, not {number!r}")
-    return (int(number.numerator), int(number.denominator)) if isinstance(number, Rational) else number.as_integer_ratio()
+    if isinstance(number, Integral):
+        return int(number)
+    return Fraction(number) if isinstance(number, Rational) else Fraction(*number.as_integer_ratio())
 
 
 def _from_f64(x, kind):
