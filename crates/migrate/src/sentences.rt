@@ -15,7 +15,8 @@ pub(crate) fn put_why(number: u8) {
         9 => put_text(b"the lengths don't fit, or bytes are left over"),
         10 => put_text(b"the buffer is shorter than the key"),
         11 => put_text(b"a record has 1 to 12 fields"),
-        _ => put_text(b"no record has this key"),
+        12 => put_text(b"no record has this key"),
+        _ => put_text(b"a refusal that has no sentence here"),
     }
     put_text(b"\n");
 }
