@@ -5,7 +5,7 @@ use text::nth_word;
 use value::Kind;
 use value::bits_of;
 
-const NAMES: [u8; 39] = *b"NPY TIFF PNG JPEG-2000 OpenEXR ZIP none";
+const NAMES: [u8; 34] = *b"NPY TIFF PNG JPEG-2000 OpenEXR ZIP";
 
 // Whether a file begins as one of these formats does; then a line says which. A pipe isn't looked at, as it can't be read twice.
 pub(crate) fn put_if_container(input: i32) -> bool {
@@ -26,7 +26,8 @@ pub(crate) fn put_if_container(input: i32) -> bool {
     true
 }
 
-// The place of the format's name, or 6, by the first four bytes and the next four, low byte first.
+// The place of the format's name, or 6, by the first four bytes and the next four, low byte first: 93 NUM; II*, MM and their like of BigTIFF;
+// 89 PNG; a JPEG 2000 codestream, or its box with the name in the next four; OpenEXR's number; PK with the kind of the archive's first part.
 fn format_of(first: u64, second: u64) -> usize {
     match first {
         0x4d55_4e93 => 0,

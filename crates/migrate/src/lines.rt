@@ -123,7 +123,10 @@ fn put_cause(errno: i32) {
         io::write_all(STDOUT_FILENO, b"the name is too long");
     } else if errno == libc::EROFS {
         io::write_all(STDOUT_FILENO, b"nothing can be written there");
+    } else if errno == libc::EIO {
+        io::write_all(STDOUT_FILENO, b"the device failed");
     } else {
-        io::write_all(STDOUT_FILENO, b"the system refuses it");
+        io::write_all(STDOUT_FILENO, b"the system refuses it, with error ");
+        put_decimal(bits_of(Value::I32(errno)));
     }
 }
