@@ -2,7 +2,6 @@
 use mathlib.Core.Path.{_≡_, refl, sym, _∙_, ap, subst}
 use mathlib.Core.Bool.{Bool, true, false, cond}
 use mathlib.Core.List.{[]}
-use mathlib.Core.Logic.{inl, inr}
 use Prim.Native.Nat.{ℕ, _-_, _*_, _%_, _^_, _<_}
 use native.Mathlib.Nat.{mod-eq-of-lt}
 use native.Mathlib.Omega.{arith}
@@ -14,7 +13,6 @@ use Rattle.float.specs.Format.{fractionOf, exponentOf, signOf}
 use Rattle.float.specs.Number.{Exact, notNumber, infinite, finite, isNone, times, none}
 use Rattle.float.specs.Number as float-number
 use Rattle.float.specs.Order.{patternOf}
-use Rattle.float.proofs.Naturals.{lt-or-ge}
 use Rattle.float.proofs.Tests.{clash}
 use Rattle.value.specs.declared.Kind.{Kind}
 use Rattle.value.specs.declared.Kind.the-variants as kind
@@ -26,7 +24,7 @@ use Rattle.value.specs.Outcome.{Outcome, gives}
 use Rattle.value.specs.Rules.{chain}
 use Rattle.value.proofs.FloatBits.{bits-pattern}
 use Rattle.value.proofs.MadeValues.{low-bits}
-use Rattle.value.proofs.TwosComplement.{from-low, from-high, from-twos}
+use Rattle.value.proofs.TwosComplement.{from-fits, from-twos}
 use Rattle.convert.specs.Convert.{magnitudeFor, integerFor, patternFor, intoRules, madeIn, convertOf}
 use Rattle.convert.specs.Inner.{intoOf}
 use Rattle.convert.proofs.Accepted.{Accepted, rules-accept, rules-give, exactFor, made-number, made-float, unsigned-fits}
@@ -98,13 +96,6 @@ made-of-bits kind.F32 x a = ap f32Value (float-of binary32 x a)
 made-of-bits kind.F64 x a = ap f64Value (float-of binary64 x a)
 
 -- ---- a value of the kind that has the number
-
--- the low n bits, read in two's complement, fit
-pub from-fits : (half n : ℕ) → n < 2 * half → mag (fromTwos half n) < half
-from-fits half n h = elim (lt-or-ge n half) [
-  | inl l ↦ subst (λ (z : ℤ). mag z < half) (from-low half n l) l
-  | inr g ↦ let b : 2 * half - 1 - n < half = omega arith in subst (λ (z : ℤ). mag z < half) (from-high half n g refl) b
-]
 
 accepts : (to : Kind) (b : ℕ) (x : Exact) → isNone x ≡ false → numberOf (valueOf to b) ≡ float-number.numberOf x → Accepted (formOf to) x
 unfolding valueOf

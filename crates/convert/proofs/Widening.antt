@@ -24,11 +24,12 @@ use Rattle.value.specs.Kinds.{Form, unsigned, signed, floating, formOf, kindNum
 use Rattle.value.specs.Meaning.{wholeOf, unit, stepOf, exactOf, numberOf, fromTwos, valueOf}
 use Rattle.value.specs.Outcome.{gives}
 use Rattle.value.proofs.MadeValues.{low-bits, value-kind}
+use Rattle.value.proofs.TwosComplement.{from-fits}
 use Rattle.convert.specs.Convert.{hasFraction, heldIn, encodeOf, madeIn, convertOf}
 use Rattle.convert.proofs.Binary.{over-up}
 use Rattle.convert.proofs.Holds.{held-when, exact-within}
 use Rattle.convert.proofs.Accepted.{Accepted, accepts-unsigned, accepts-signed, accepts-float}
-use Rattle.convert.proofs.Exactly.{from-fits, none-is, into-gives, other-kind}
+use Rattle.convert.proofs.Exactly.{none-is, into-gives, other-kind}
 
 -- ---- a number of few digits, in a float format
 

@@ -33,7 +33,7 @@ use Rattle.laws_cmp.proofs.Choices.{clamp-above, clamp-within}
 use Rattle.laws_cmp.proofs.Fields.{equal-every}
 use Rattle.laws_cmp.proofs.Records.{integer-records-linear-order}
 use Rattle.laws_cmp.proofs.RecordChoices.{record-min-less, record-min-equal, record-min-greater, record-max-less, record-max-equal, record-max-greater}
-use Rattle.demands.specs.Demand2.{Records, Choosing}
+use Rattle.demands.specs.Choosing.{Records, Choosing}
 
 -- ---- records
 

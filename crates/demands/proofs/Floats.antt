@@ -30,7 +30,7 @@ use Rattle.laws_cmp.specs.Laws.{OneKind, OneIntegerKind}
 use Rattle.laws_cmp.proofs.Comparison.{values-partial-order}
 use Rattle.laws_cmp.proofs.Integers.{integers-linear-order}
 use Rattle.laws_cmp.proofs.TotalOrder.{other-whole, values-total-order}
-use Rattle.demands.specs.Demand2.{Floats, OfForm, Values}
+use Rattle.demands.specs.Floats.{Floats, OfForm, Values}
 
 -- ---- patterns
 

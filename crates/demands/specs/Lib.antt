@@ -5,8 +5,14 @@ pub mod Demands
 pub mod Demand1
 -- the same at the boundary, and for a whole input
 pub mod Boundary
--- classes, comparison, total order, conversion, records and choosing
+-- the sentences of demand 2
 pub mod Demand2
+-- classes, comparison and total order
+pub mod Floats
+-- conversion
+pub mod Conversion
+-- records compared, samples chosen and clamped
+pub mod Choosing
 -- keys and the order of their bytes
 pub mod Demand3
 -- no two outcomes meet a contract

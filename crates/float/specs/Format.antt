@@ -1,7 +1,7 @@
 -- A float format by its number p of fraction bits and e of exponent bits: what a bit pattern b of it says, in whole numbers.
 -- RULES.md: Bits and classes, Scaled numbers, Total order. f32 is 23 8, f64 is 52 11.
 use Prim.Native.Nat.{ℕ, zero, suc, _+_, _-_, _*_, _/_, _%_, _^_}
-use mathlib.Core.Bool.{Bool, cond}
+use mathlib.Core.Bool.{Bool, _&&_, cond}
 use lib.Dec.{ltb, leb, eqb}
 use lib.IntN.{ℤ, pos, negsuc}
 use lib.Ieee as language
@@ -44,6 +44,16 @@ infiniteOf p e b = eqb (absOf p e b) (infOf p e)
 
 abbrev pub nanOf : ℕ → ℕ → ℕ → Bool
 nanOf p e b = ltb (infOf p e) (absOf p e b)
+
+-- of the finite patterns: abs is 0; above 0 and below 2^p; from 2^p up to the infinity's bits
+abbrev pub zeroOf : ℕ → ℕ → ℕ → Bool
+zeroOf p e b = eqb (absOf p e b) 0
+
+abbrev pub subnormalOf : ℕ → ℕ → ℕ → Bool
+subnormalOf p e b = ltb 0 (absOf p e b) && ltb (absOf p e b) (2 ^ p)
+
+abbrev pub normalOf : ℕ → ℕ → ℕ → Bool
+normalOf p e b = leb (2 ^ p) (absOf p e b) && ltb (absOf p e b) (infOf p e)
 
 -- a finite pattern is zero when abs is 0, subnormal below 2^p, else normal
 abbrev pub classAt : ℕ → ℕ → ℕ → Class

@@ -7,7 +7,6 @@ use Prim.Native.Nat.{ℕ, _%_, _-_, _^_, _<_}
 use native.Mathlib.Nat.{mod-eq-of-lt}
 use lib.IntN.{ℤ, pos, negsuc}
 use lib.Ieee.{Format, binary32, binary64}
-use lib.Ieee.Bits.{ofBits-fits}
 use Rattle.float.specs.Number.{isNone, times}
 use Rattle.float.specs.Number as float-number
 use Rattle.float.specs.Order.{orderN, orderOf}
@@ -17,12 +16,12 @@ use Rattle.value.specs.declared.Kind.the-variants as kind
 use Rattle.value.specs.declared.Value.{Value}
 use Rattle.value.specs.declared.Value.the-variants.{U8, U16, U32, U64, I8, I16, I32, I64, F32, F64}
 use Rattle.value.specs.Kinds.{formOf, kindOf, bytesOf}
-use Rattle.value.specs.Meaning.{Content, natural, integer, real, contentOf, fitsSigned, wholeOf, unit, exactIn, valueOf}
+use Rattle.value.specs.Meaning.{Content, natural, integer, real, contentOf, InRange, fitsSigned, wholeOf, unit, exactIn, valueOf}
 use Rattle.cmp.specs.Compare.{valueOrder}
 use Rattle.cmp.proofs.Numbers.{integers-order}
 use Rattle.key.specs.Key.{keyIn, keyNumber, bitsFrom, notCanonical}
-use Rattle.key.specs.Keyed.{InRange, Keyed, normal}
-use Rattle.key.proofs.Ranges.{formIn, content-form}
+use Rattle.key.specs.Keyed.{Keyed, normal}
+use Rattle.value.proofs.Ranges.{formIn, content-form, made-in-range}
 use Rattle.key.proofs.SignedKeys.{shifted-order, shifted-below, shifted-read, read-shifted}
 use Rattle.key.proofs.FloatFields.{float-below, float-canonical, float-read, word-read, float-order, made-some, made-key}
 
@@ -51,7 +50,7 @@ content-order (real f x v) (real g y w) q h l s t =
     let r : g ≡ f = cc in
     subst (λ (i : Format). orderN (keyIn (real f x v)) (keyIn (real i y w))
     ≡ orderOf (float-number.numberOf (exactIn (real f x v))) (float-number.numberOf (exactIn (real i y w)))) (sym r)
-    (float-order f x y v w h (rw r at l) s (rw r at t))
+    (float-order f x y v w (h .0) (rw r at (l .0)) s (rw r at t))
 
 pub field-order : (v w : Value) → Keyed v → Keyed w → kindOf v ≡ kindOf w → orderN (keyNumber v) (keyNumber w) ≡ valueOrder v w
 field-order v w h k q =
@@ -77,14 +76,14 @@ field-read (I16 z) h = record { below = shifted-below (2 ^ 15) z (h .in-range); 
 field-read (I32 z) h = record { below = shifted-below (2 ^ 31) z (h .in-range); canonical = refl; value-is = ap I32 (shifted-read (2 ^ 31) z (h .in-range)) }
 field-read (I64 z) h = record { below = shifted-below (2 ^ 63) z (h .in-range); canonical = refl; value-is = ap I64 (shifted-read (2 ^ 63) z (h .in-range)) }
 field-read (F32 x w) h = record {
-  below = float-below binary32 x w (h .in-range) (h .some-number);
-  canonical = float-canonical binary32 x w (h .in-range) (h .some-number);
-  value-is = cc (float-read binary32 x w (h .in-range) (h .some-number), word-read binary32 x w (h .in-range) (h .some-number));
+  below = float-below binary32 x w (h .in-range .0) (h .some-number);
+  canonical = float-canonical binary32 x w (h .in-range .0) (h .some-number);
+  value-is = cc (float-read binary32 x w (h .in-range .0) (h .some-number), word-read binary32 x w (h .in-range .0) (h .some-number));
 }
 field-read (F64 x w) h = record {
-  below = float-below binary64 x w (h .in-range) (h .some-number);
-  canonical = float-canonical binary64 x w (h .in-range) (h .some-number);
-  value-is = cc (float-read binary64 x w (h .in-range) (h .some-number), word-read binary64 x w (h .in-range) (h .some-number));
+  below = float-below binary64 x w (h .in-range .0) (h .some-number);
+  canonical = float-canonical binary64 x w (h .in-range .0) (h .some-number);
+  value-is = cc (float-read binary64 x w (h .in-range .0) (h .some-number), word-read binary64 x w (h .in-range .0) (h .some-number));
 }
 
 -- ---- writing the value of a key number
@@ -122,6 +121,6 @@ field-write kind.I16 n h c = signed-write _ 16 n (read-shifted (2 ^ 15) n h) ref
 field-write kind.I32 n h c = signed-write _ 32 n (read-shifted (2 ^ 31) n h) refl
 field-write kind.I64 n h c = signed-write _ 64 n (read-shifted (2 ^ 63) n h) refl
 field-write kind.F32 n h c =
-    record { keyed = record { in-range = ofBits-fits binary32 _; some-number = made-some binary32 n h c }; number-is = made-key binary32 n h c }
+    record { keyed = record { in-range = made-in-range kind.F32 _; some-number = made-some binary32 n h c }; number-is = made-key binary32 n h c }
 field-write kind.F64 n h c =
-    record { keyed = record { in-range = ofBits-fits binary64 _; some-number = made-some binary64 n h c }; number-is = made-key binary64 n h c }
+    record { keyed = record { in-range = made-in-range kind.F64 _; some-number = made-some binary64 n h c }; number-is = made-key binary64 n h c }

@@ -2,6 +2,7 @@
 use mathlib.Core.Path.{refl}
 use mathlib.Core.List.{List, [], _∷_}
 use native.Mathlib.Omega.{arith}
+use lib.Dec.{lit<}
 use lib.IntN.{negsuc}
 use lib.Ieee.{binary32, toBits, ofBits, ofFields, odd, size, span, climb, isNan}
 use lib.Ieee.Bits.{ofBits-fits}
@@ -28,5 +29,5 @@ three-of-shape = record {
   kinds-are = refl;
   keyed = more (fieldFor (U16 258)) _ (record { in-range = omega arith; some-number = refl })
       (more (fieldFor (I16 (negsuc 0))) _ (record { in-range = omega arith; some-number = refl })
-      (more (fieldFor (f32Value 0xbf80_0000)) _ (record { in-range = ofBits-fits binary32 0xbf80_0000; some-number = refl }) none));
+      (more (fieldFor (f32Value 0xbf80_0000)) _ (record { in-range = (ofBits-fits binary32 0xbf80_0000, lit< tt); some-number = refl }) none));
 }

@@ -16,14 +16,14 @@ use Rattle.value.specs.declared.Layout.{Layout}
 use Rattle.value.specs.declared.Layout.the-variants as layout
 use Rattle.value.specs.declared.Value.{Value}
 use Rattle.value.specs.Kinds.{Form, unsigned, signed, floating, formOf, layoutFor, widthIn, kindOf, bytesOf}
-use Rattle.value.specs.Meaning.{Content, natural, integer, real, contentOf, twosOf, floatBits, bitsOf, stepOf, exactIn, exactOf}
+use Rattle.value.specs.Meaning.{Content, natural, integer, real, contentOf, InRange, fitsSigned, twosOf, floatBits, bitsOf, stepOf, exactIn, exactOf}
 use Rattle.value.specs.Meaning as value
 use Rattle.key.specs.declared.Weights.{Weights}
 use Rattle.key.specs.declared.Weights.the-variants as weights
 use Rattle.key.specs.Key.{shifted, floatKey, patternFrom, keyIn, keyNumber, bitsFrom, notCanonical}
 use Rattle.key.specs.Inner.{weightsFor, InWeights, numberByWeights, bitsByWeights, absIn, nanIn, foreignIn}
 use Rattle.value.proofs.Widths.{Sized, kind-sized}
-use Rattle.key.proofs.Ranges.{Ranged, formIn, content-form, twice-half, bits-range}
+use Rattle.value.proofs.Ranges.{formIn, content-form, twice-half, bits-range}
 
 -- ---- the steps of the code
 
@@ -122,11 +122,11 @@ form-room (signed k) n s h = (half-room (k - 1) (omega arith), rw (twice-half k 
 form-room (floating f) n s h = (half-room (fractionOf f + exponentOf f) (omega arith), omega (arith, pow-suc 2 (fractionOf f + exponentOf f)))
 
 -- the sign bit of z's pattern turned is z + half
-turned-shifted : (half : ℕ) (z : ℤ) → mag z < half → (twosOf (2 * half - 1) z + half) % (2 * half) ≡ shifted half z
+turned-shifted : (half : ℕ) (z : ℤ) → fitsSigned half z → (twosOf (2 * half - 1) z + half) % (2 * half) ≡ shifted half z
 turned-shifted half (pos n) h = sym (turned-low half n h) ∙ omega arith
 turned-shifted half (negsuc n) h = sym (turned-high half (2 * half - 1 - n) (omega arith) (omega arith)) ∙ omega arith
 
-content-number : (x : Content) → Sized (formIn x) → Ranged x → numberByWeights (weightsFor (formIn x)) (value.bitsIn x) ≡ keyIn x
+content-number : (x : Content) → Sized (formIn x) → InRange x → numberByWeights (weightsFor (formIn x)) (value.bitsIn x) ≡ keyIn x
 content-number (natural k n) s r = refl
 content-number (integer k z) s r = rw (← twice-half k (omega (arith, s .0))) (turned-shifted (2 ^ (k - 1)) z r)
 content-number (real f x w) s r = refl
@@ -161,7 +161,7 @@ module _ (v : Value) {k : Kind} {b : ℕ} {l : Weights} (k-is : k ≡ kindOf v) 
   pub value-none : nanIn l b ≡ isNone (exactOf v)
   value-none = rw (own-weights, b-is) (content-none (contentOf v))
 
-  module _ (r : Ranged (contentOf v)) where
+  module _ (r : InRange (contentOf v)) where
     own-sized : Sized (formIn (contentOf v))
     own-sized = subst Sized (sym (content-form v)) (kind-sized (kindOf v))
 

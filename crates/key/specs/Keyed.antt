@@ -1,27 +1,21 @@
 -- The values and records that have a key, and what reading makes of them: demand 3 speaks of these. RULES.md: Keys, the three demands.
-use Prim.Native.Nat.{ℕ, _-_, _^_, _<_, _≤_}
+use Prim.Native.Nat.{ℕ, _<_, _≤_}
 use mathlib.Core.Path.{_≡_}
 use mathlib.Core.Bool.{false, cond}
 use mathlib.Core.List.{List, [], _∷_, map}
-use lib.Dec.{T, eqb}
+use lib.Dec.{eqb}
 use lib.ListN.{length}
-use lib.Ieee.{Float, Format, binary32, binary64, fits, toBits, ofBits}
+use lib.Ieee.{Float, Format, binary32, binary64, toBits, ofBits}
 use Rattle.float.specs.Format.{fractionOf, exponentOf, signOf}
 use Rattle.float.specs.Number.{isNone}
 use Rattle.value.specs.declared.Value.{Value}
 use Rattle.value.specs.declared.Value.the-variants.{F32, F64}
-use Rattle.value.specs.Meaning.{Content, natural, integer, real, contentOf, fitsSigned, exactOf}
+use Rattle.value.specs.Meaning.{Content, natural, integer, real, contentOf, InRange, exactOf}
 use Rattle.record.specs.declared.Field.{Field}
 use Rattle.record.specs.declared.Record.{Record}
 use Rattle.record.specs.declared.Shape.{Shape}
 use Rattle.record.specs.Record.{fieldFor, fieldsOf, kindsIn, kindsOf, recordOf}
 use Rattle.key.specs.Key.{keyOf}
-
--- in the range of its kind, as every value that a program holds
-abbrev pub InRange : Content → Type 0
-InRange (natural k n) = n < 2 ^ k
-InRange (integer k z) = fitsSigned (2 ^ (k - 1)) z
-InRange (real f x w) = T (fits f x)
 
 -- in range and no NaN: the values that have a key
 pub record Keyed (v : Value) : Type 0 where

@@ -2,24 +2,18 @@
 use mathlib.Core.Path.{_≡_, refl, sym, _∙_, ap}
 use mathlib.Core.List.{[], _∷_}
 use mathlib.Core.Logic.{inl, inr}
-use mathlib.Core.Bool.{Bool}
 use Rattle.float.specs.declared.Order.{Order}
 use Rattle.float.specs.declared.Order.the-variants.{Less, Equal, Greater}
-use Rattle.float.specs.Order.{isEqual}
 use Rattle.float.proofs.Turned.{turned}
 use Rattle.value.specs.declared.Value.the-variants.{U8}
-use Rattle.value.specs.Outcome.{Outcome, gives, mapped}
+use Rattle.value.specs.Outcome.{gives}
 use Rattle.record.specs.declared.Record.{Record}
 use Rattle.record.specs.Record.{fieldFor, fieldsOf, recordOf}
 use Rattle.lexical.specs.Lexical.{lexicalOf, compareOf}
 use Rattle.lexical.proofs.Given.{compared-records, records-compared}
-use Rattle.laws_cmp.specs.Laws.{PartialOrder, LinearOrder, Ordered, OneIntegerShape, SameFields}
+use Rattle.laws_cmp.specs.Laws.{PartialOrder, LinearOrder, Ordered, OneIntegerShape, SameFields, recordsEq}
 use Rattle.laws_cmp.proofs.Comparison.{equal-tested, tested-equal}
 use Rattle.laws_cmp.proofs.Fields.{turned-fields, fields-less-trans, fields-equal-trans, fields-ordered, fields-equal, equal-fields}
-
--- eq of two records: they compare Equal
-abbrev pub recordsEq : Record → Record → Outcome Bool
-recordsEq a b = mapped isEqual (compareOf a b)
 
 pub turned-records : (a b : Record) (o : Order) → compareOf a b ≡ gives o → compareOf b a ≡ gives (turned o)
 turned-records a b o h =

@@ -8,11 +8,13 @@ use Rattle.float.specs.declared.Order.{Order}
 use Rattle.float.specs.declared.Order.the-variants.{Less, Equal, Greater}
 use Rattle.value.specs.declared.Value.{Value}
 use Rattle.value.specs.Kinds.{kindOf, formOf, isInteger}
-use Rattle.value.specs.Outcome.{Outcome, gives}
+use Rattle.float.specs.Order.{isEqual}
+use Rattle.value.specs.Outcome.{Outcome, gives, mapped}
 use Rattle.cmp.specs.Compare.{valueOrder}
 use Rattle.record.specs.declared.Field.{Field}
 use Rattle.record.specs.declared.Record.{Record}
 use Rattle.record.specs.Record.{fieldsOf, kindsOf, badCount}
+use Rattle.lexical.specs.Lexical.{compareOf}
 
 -- obeys_partial_cmp_spec_properties, with symmetry and transitivity of eq in place of obeys_eq_spec_properties
 pub record PartialOrder {A : Type 0} (compare : A → A → Outcome Order) (eq : A → A → Outcome Bool) : Type 0 where
@@ -62,6 +64,10 @@ OneIntegerShape a b = AllIntegers (fieldsOf a) × OneShape a b
 -- the fields that count are the same
 abbrev pub SameFields : Record → Record → Type 0
 SameFields a b = fieldsOf a ≡ fieldsOf b
+
+-- eq of two records: they compare Equal
+abbrev pub recordsEq : Record → Record → Outcome Bool
+recordsEq a b = mapped isEqual (compareOf a b)
 
 -- every field is Equal
 abbrev pub AllEqual : List Field → List Field → Type 0

@@ -7,3 +7,4 @@ pub mod Outcomes
 pub mod Rules
 pub mod Forms
 pub mod Units
+pub mod Ranges

@@ -120,3 +120,10 @@ twos-from half n h = elim (lt-or-ge n half) [
 pub from-twos : (half : ℕ) (z : ℤ) → mag z < half → fromTwos half (twosOf (2 * half - 1) z) ≡ z
 from-twos half (pos n) h = sym (from-low half n h)
 from-twos half (negsuc n) h = sym (from-high half (2 * half - 1 - n) (omega arith) (omega arith))
+
+-- the low n bits, read in two's complement, fit
+pub from-fits : (half n : ℕ) → n < 2 * half → mag (fromTwos half n) < half
+from-fits half n h = elim (lt-or-ge n half) [
+  | inl l ↦ subst (λ (z : ℤ). mag z < half) (from-low half n l) l
+  | inr g ↦ let b : 2 * half - 1 - n < half = omega arith in subst (λ (z : ℤ). mag z < half) (from-high half n g refl) b
+]

@@ -2,9 +2,9 @@
 -- Ten kinds, three forms: each definition below goes by the form, so that what is said of it is said once.
 use Prim.Native.Nat.{ℕ, suc, _+_, _-_, _*_, _%_, _^_, _<_}
 use mathlib.Core.Bool.{false, true, cond}
-use lib.Dec.{ltb}
+use lib.Dec.{T, ltb}
 use lib.IntN.{ℤ, pos, negsuc}
-use lib.Ieee.{Float, Format, binary32, binary64, isNan, toBits, ofBits}
+use lib.Ieee.{Float, Format, binary32, binary64, isNan, fits, toBits, ofBits}
 use Rattle.float.specs.Format.{fractionOf, exponentOf, infOf, nanOf}
 use Rattle.float.specs.Format as patterns
 use Rattle.float.specs.Number.{Exact, finite, times, Number}
@@ -14,6 +14,7 @@ use Rattle.value.specs.declared.Kind.{Kind}
 use Rattle.value.specs.declared.Kind.the-variants as kind
 use Rattle.value.specs.declared.Value.{Value}
 use Rattle.value.specs.declared.Value.the-variants.{U8, U16, U32, U64, I8, I16, I32, I64, F32, F64}
+use Rattle.value.specs.Kinds.{floating, widthIn}
 
 -- a number of some bits, unsigned or signed, or a float of a format with the word beside it
 pub data Content : Type 0 where
@@ -63,6 +64,12 @@ bitsIn (real f x w) = floatBits f x w
 -- the bits of a value
 abbrev pub bitsOf : Value → ℕ
 bitsOf v = bitsIn (contentOf v)
+
+-- in the range of its kind, as every value that a program holds; the word beside a float has the float's width
+abbrev pub InRange : Content → Type 0
+InRange (natural k n) = n < 2 ^ k
+InRange (integer k z) = fitsSigned (2 ^ (k - 1)) z
+InRange (real f x w) = T (fits f x) × (w < 2 ^ widthIn (floating f))
 
 -- ---- the one meaning: no number, an infinity, or a sign and a magnitude in units of 2^-1074
 

@@ -1,27 +1,27 @@
 -- The weights of the value's own kind make the number of its key from its bits; what a program holds has no more bits than its kind.
 use mathlib.Core.Path.{_≡_, _∙_}
-use Rattle.value.specs.Meaning.{contentOf}
+use Rattle.value.specs.Meaning.{InRange, contentOf}
 use Rattle.key.specs.Key.{keyNumber}
 use Rattle.key.specs.Inner.{InWeights, numberByWeights}
 use Rattle.key.proofs.KeyNumbers.{value-room, value-number}
-use Rattle.key.proofs.Ranges.{Ranged, value-ranged}
+use Rattle.value.proofs.Ranges.{value-held}
 use borrow.Author.Needs.{needs}
 use Rattle.key.proofs.numbers.number_of.Statement.{statement}
 use Rattle.key.proofs.numbers.number_of.Tie as tie
 
-ranged : (c : tie.Start) → Ranged (contentOf (c .args .v))
-ranged c = value-ranged (c .args .v) _ (c .good .0)
+held : (c : tie.Start) → InRange (contentOf (c .args .v))
+held c = value-held (c .args .v) _ (c .good .0)
 
 room : (c : tie.After-weights-of) → InWeights (c .weights-of .result) (c .before .before .bits-of .result)
 room c =
     let start = c .before .before .before in
-    value-room (start .args .v) (c .before .kind-of .ensures) (c .before .before .bits-of .ensures) (c .weights-of .ensures) (ranged start)
+    value-room (start .args .v) (c .before .kind-of .ensures) (c .before .before .bits-of .ensures) (c .weights-of .ensures) (held start)
 
 number : (c : tie.After-weights-of)
     → numberByWeights (c .weights-of .result) (c .before .before .bits-of .result) ≡ keyNumber (c .before .before .before .args .v)
 number c =
     let start = c .before .before .before in
-    value-number (start .args .v) (c .before .kind-of .ensures) (c .before .before .bits-of .ensures) (c .weights-of .ensures) (ranged start)
+    value-number (start .args .v) (c .before .kind-of .ensures) (c .before .before .bits-of .ensures) (c .weights-of .ensures) (held start)
 
 turned-requires : tie.Need-turned-requires
 turned-requires c κs = rw (c .before .half .given .1) at (room (c .before .before .before))

@@ -1,0 +1,125 @@
+-- What a program holds is in the range of its kind: owning a value tells it. So its bits are no more than its kind has.
+use mathlib.Core.Path.{_≡_, refl, sym, subst}
+use mathlib.Core.Bool.{Bool, true, false, cond}
+use mathlib.Core.List.{List}
+use Prim.Native.Nat.{ℕ, suc, _+_, _-_, _*_, _%_, _^_, _≤_, _<_}
+use native.Mathlib.Nat.{pow-suc}
+use native.Mathlib.Omega.{arith}
+use lib.Dec.{T, lit<}
+use lib.IntN.{ℤ, pos, negsuc}
+use lib.Pow.{pow-pos}
+use lib.Ieee.{Float, Format, binary32, binary64, isNan, fits, toBits}
+use lib.Ieee.Bits.{toBits-lt, ofBits-fits}
+use mir.Val.{Val}
+use denote.Laws.{Is}
+use denote.Enum.Declared.{row}
+use denote.Enum.Laws.{owed}
+use Rattle.float.specs.Format.{fractionOf, exponentOf, infOf, nanOf}
+use Rattle.value.specs.declared.Kind.{Kind}
+use Rattle.value.specs.declared.Kind.the-variants as kind
+use Rattle.value.specs.declared.Value.{Value}
+use Rattle.value.specs.declared.Value.the-variants.{U8, U16, U32, U64, I8, I16, I32, I64, F32, F64}
+use Rattle.value.specs.Kinds.{Form, unsigned, signed, floating, formOf, widthIn, kindOf}
+use Rattle.value.specs.Meaning.{Content, natural, integer, real, contentOf, fitsSigned, floatBits, bitsIn, bitsOf, InRange, fromTwos, wordFor, valueOf}
+use Rattle.value.proofs.Widths.{Sized, kind-sized}
+use Rattle.value.proofs.TwosComplement.{below-fits, from-fits}
+use Rattle.value.proofs.MadeValues.{low-bits, value-bits}
+use Rattle.value.proofs.Value.{the-type}
+use Rattle.value.proofs.Value.Laws.{the-laws}
+
+-- ---- what a program holds
+
+pub value-held : (v : Value) (vs : List Val) → Is (row the-type) v vs → InRange (contentOf v)
+value-held (U8 n) vs p = owed the-type the-laws (U8 n) vs p .0 .1
+value-held (U16 n) vs p = owed the-type the-laws (U16 n) vs p .0 .1
+value-held (U32 n) vs p = owed the-type the-laws (U32 n) vs p .0 .1
+value-held (U64 n) vs p = owed the-type the-laws (U64 n) vs p .0 .1
+value-held (I8 z) vs p = below-fits (2 ^ 7) z (owed the-type the-laws (I8 z) vs p .0 .1)
+value-held (I16 z) vs p = below-fits (2 ^ 15) z (owed the-type the-laws (I16 z) vs p .0 .1)
+value-held (I32 z) vs p = below-fits (2 ^ 31) z (owed the-type the-laws (I32 z) vs p .0 .1)
+value-held (I64 z) vs p = below-fits (2 ^ 63) z (owed the-type the-laws (I64 z) vs p .0 .1)
+value-held (F32 x w) vs p = let o = owed the-type the-laws (F32 x w) vs p in (subst T (sym (o .0 .1)) tt, o .1 .0 .1)
+value-held (F64 x w) vs p = let o = owed the-type the-laws (F64 x w) vs p in (subst T (sym (o .0 .1)) tt, o .1 .0 .1)
+
+-- ---- the form of a kind
+
+abbrev pub formIn : Content → Form
+formIn (natural k n) = unsigned k
+formIn (integer k z) = signed k
+formIn (real f x w) = floating f
+
+pub content-form : (v : Value) → formIn (contentOf v) ≡ formOf (kindOf v)
+content-form (U8 n) = refl
+content-form (U16 n) = refl
+content-form (U32 n) = refl
+content-form (U64 n) = refl
+content-form (I8 z) = refl
+content-form (I16 z) = refl
+content-form (I32 z) = refl
+content-form (I64 z) = refl
+content-form (F32 x w) = refl
+content-form (F64 x w) = refl
+
+-- ---- bits
+
+pub twice-half : (k : ℕ) → 1 ≤ k → 2 * 2 ^ (k - 1) ≡ 2 ^ k
+twice-half (suc k) h = let q : suc k - 1 ≡ k = omega arith in rw (q, pow-suc 2 k) (omega arith)
+
+twos-range : (k : ℕ) (z : ℤ) → 1 ≤ k → fitsSigned (2 ^ (k - 1)) z → bitsIn (integer k z) < 2 ^ k
+twos-range k (pos n) s h = omega (arith, twice-half k s)
+twos-range k (negsuc n) s h = omega (arith, pow-pos k)
+
+quiet-range : (f : Format) → infOf (fractionOf f) (exponentOf f) + 2 ^ (fractionOf f - 1) < 2 ^ widthIn (floating f)
+quiet-range binary32 = lit< tt
+quiet-range binary64 = lit< tt
+
+number-range : (f : Format) (x : Float) → T (fits f x) → toBits f x < 2 ^ widthIn (floating f)
+number-range binary32 x h = toBits-lt binary32 x h
+number-range binary64 x h = toBits-lt binary64 x h
+
+float-range : (f : Format) (x : Float) (w : ℕ) → T (fits f x) → w < 2 ^ widthIn (floating f) → floatBits f x w < 2 ^ widthIn (floating f)
+unfolding floatBits
+float-range f x w h g = go (isNan x) (nanOf (fractionOf f) (exponentOf f) w)
+  where
+    go : (s t : Bool) → cond s (cond t w (infOf (fractionOf f) (exponentOf f) + 2 ^ (fractionOf f - 1))) (toBits f x) < 2 ^ widthIn (floating f)
+    go true true = g
+    go true false = quiet-range f
+    go false t = number-range f x h
+
+pub bits-range : (x : Content) → Sized (formIn x) → InRange x → bitsIn x < 2 ^ widthIn (formIn x)
+bits-range (natural k n) s r = r
+bits-range (integer k z) s r = twos-range k z (omega (arith, s .0)) r
+bits-range (real f x w) s r = float-range f x w (r .0) (r .1)
+
+-- ---- what is made of a pattern
+
+word-small : (f : Format) (b : ℕ) → b < 2 ^ widthIn (floating f) → wordFor (fractionOf f) (exponentOf f) b < 2 ^ widthIn (floating f)
+word-small f b h = go (nanOf (fractionOf f) (exponentOf f) b)
+  where
+    go : (t : Bool) → cond t b 0 < 2 ^ widthIn (floating f)
+    go true = h
+    go false = pow-pos (widthIn (floating f))
+
+signed-small : (half n : ℕ) → n < 2 * half → fitsSigned half (fromTwos half n)
+signed-small half n h = below-fits half (fromTwos half n) (from-fits half n h)
+
+pub made-in-range : (k : Kind) (b : ℕ) → InRange (contentOf (valueOf k b))
+unfolding valueOf
+made-in-range kind.U8 b = low-bits b 8
+made-in-range kind.U16 b = low-bits b 16
+made-in-range kind.U32 b = low-bits b 32
+made-in-range kind.U64 b = low-bits b 64
+made-in-range kind.I8 b = signed-small (2 ^ 7) (b % 2 ^ 8) (low-bits b 8)
+made-in-range kind.I16 b = signed-small (2 ^ 15) (b % 2 ^ 16) (low-bits b 16)
+made-in-range kind.I32 b = signed-small (2 ^ 31) (b % 2 ^ 32) (low-bits b 32)
+made-in-range kind.I64 b = signed-small (2 ^ 63) (b % 2 ^ 64) (low-bits b 64)
+made-in-range kind.F32 b = (ofBits-fits binary32 (b % 2 ^ 32), word-small binary32 (b % 2 ^ 32) (low-bits b 32))
+made-in-range kind.F64 b = (ofBits-fits binary64 (b % 2 ^ 64), word-small binary64 (b % 2 ^ 64) (low-bits b 64))
+
+-- ---- a value is told by its kind and its bits
+
+-- the value of its own bits has these bits
+pub value-again : (v : Value) → InRange (contentOf v) → bitsOf (valueOf (kindOf v) (bitsOf v)) ≡ bitsOf v
+value-again v r =
+    let small : bitsOf v < 2 ^ widthIn (formIn (contentOf v)) = bits-range (contentOf v) (subst Sized (sym (content-form v)) (kind-sized (kindOf v))) r in
+    value-bits (kindOf v) (bitsOf v) (subst (λ (form : Form). bitsOf v < 2 ^ widthIn form) (content-form v) small)
