@@ -2,7 +2,7 @@
 use Prim.Native.Nat.{ℕ, suc}
 use mathlib.Core.Path.{_≡_, refl, sym, _∙_, ap}
 use mathlib.Core.Bool.{Bool, true, false, not}
-use mathlib.Core.List.{List, [], _∷_, map}
+use mathlib.Core.List.{List, [], _∷_, _++_, map}
 use lib.Ieee.{Float}
 use Rattle.float.specs.Order.{isEqual, isNotEqual, isLess, isLessOrEqual, isGreater, isGreaterOrEqual}
 use Rattle.value.specs.declared.Kind.{Kind}
@@ -110,6 +110,17 @@ by-its-rules = record {
   read-key = λ s key. by-chain _ _;
 }
 
+-- a rule at another place keeps its number
+numbers-join : (at : ℕ) (rules rest : List Rule) → numbersOf (map (placed at) rules ++ rest) ≡ numbersOf rules ++ numbersOf rest
+unfolding numbersOf
+numbers-join at [] rest = refl
+numbers-join at (rule n p holds ∷ rules) rest = ap (λ ns. n ∷ ns) (numbers-join at rules rest)
+
+each-numbers : {A : Type 0} (rules : A → List Rule) (at : ℕ) (x : A) (xs : List A)
+    → numbersOf (eachOf rules at (x ∷ xs)) ≡ numbersOf (rules x) ++ numbersOf (eachOf rules (suc at) xs)
+unfolding eachOf
+each-numbers rules at x xs = numbers-join at (rules x) (eachOf rules (suc at) xs)
+
 in-order : InOrder
 unfolding numbersOf eachOf
 in-order = record {
@@ -123,8 +134,11 @@ in-order = record {
   compare-records = λ a b. refl;
   min-max-records = λ a b. refl;
   place = λ at. refl;
+  shape = λ n. refl;
   write-key = λ r room. refl;
   read-key = λ s key. refl;
+  each = each-numbers;
+  row-clamp = λ range x. refl;
   each-nan = λ at f fs. refl;
   each-canonical = λ at f fs. refl;
 }

@@ -4,6 +4,15 @@ use Rattle.demands.proofs.Demand1.{demand-1}
 use Rattle.demands.proofs.Boundary.{at-the-boundary}
 use Rattle.demands.proofs.Demand2.{demand-2}
 use Rattle.demands.proofs.Demand3.{demand-3}
+use Rattle.demands.proofs.Determined.{determined}
+use Rattle.demands.proofs.Marked.{all-answered}
 
 pub the-demands : Demands
-the-demands = record { first = demand-1; first-at-the-boundary = at-the-boundary; second = demand-2; third = demand-3 }
+the-demands = record {
+  first = demand-1;
+  first-at-the-boundary = at-the-boundary;
+  second = demand-2;
+  third = demand-3;
+  determined = determined;
+  marked-cases = all-answered;
+}

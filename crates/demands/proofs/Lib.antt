@@ -1,10 +1,11 @@
 pub mod Demand1
+pub mod Lengths
 pub mod Boundary
 pub mod Floats
 pub mod Conversion
 pub mod Choosing
 pub mod Demand2
 pub mod Demand3
-pub mod Demands
 pub mod Determined
 pub mod Marked
+pub mod Demands

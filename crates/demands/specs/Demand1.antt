@@ -79,7 +79,7 @@ pub record Unchanged : Type 1 where
   pub key-buffer : (r : Record) (buffer : List ℕ) (n p : ℕ) → writeOf r (length buffer) ≡ refuses n p → writeExit r buffer ≡ buffer
 
 -- each call's order, as the rules name it. A list is its definition's own: here its numbers stand a second time, for a reader to hold against the rules
-pub record InOrder : Type 0 where
+pub record InOrder : Type 1 where
   pub compare : (a b : Value) → numbersOf (valueRules a b) ≡ 7 ∷ []
   pub min-max : (a b : Value) → numbersOf (choiceRules a b) ≡ 7 ∷ 8 ∷ []
   pub clamp : (v lower upper : Value) → numbersOf (clampRules v lower upper) ≡ 7 ∷ 6 ∷ 8 ∷ []
@@ -90,8 +90,13 @@ pub record InOrder : Type 0 where
   pub compare-records : (a b : Record) → numbersOf (recordRules a b) ≡ 11 ∷ 7 ∷ []
   pub min-max-records : (a b : Record) → numbersOf (lexical.choiceRules a b) ≡ 11 ∷ 7 ∷ 8 ∷ []
   pub place : (at : ℕ) → numbersOf (placeRules at) ≡ 11 ∷ []
+  pub shape : (n : ℕ) → numbersOf (countRules n) ≡ 11 ∷ []
   pub write-key : (r : Record) (room : ℕ) → numbersOf (writeRules r room) ≡ 11 ∷ 10 ∷ numbersOf (nanRules 0 (fieldsOf r))
   pub read-key : (s : Shape) (key : List ℕ) → numbersOf (readRules s key) ≡ 11 ∷ 9 ∷ numbersOf (canonicalRules 0 (keyNumbers (kindsIn s) key))
+  -- of a row those of each sample in turn, of a record those of each field
+  pub each : {A : Type 0} (rules : A → List Rule) (at : ℕ) (x : A) (xs : List A)
+      → numbersOf (eachOf rules at (x ∷ xs)) ≡ numbersOf (rules x) ++ numbersOf (eachOf rules (suc at) xs)
+  pub row-clamp : (range : Range) (x : Float) → numbersOf (rowClampRules range (x ∷ [])) ≡ 6 ∷ 8 ∷ []
   pub each-nan : (at : ℕ) (f : Field) (fs : List Field) → numbersOf (nanRules at (f ∷ fs)) ≡ 1 ∷ numbersOf (nanRules (suc at) fs)
   pub each-canonical : (at : ℕ) (f : Kind × ℕ) (fs : List (Kind × ℕ)) → numbersOf (canonicalRules at (f ∷ fs)) ≡ 12 ∷ numbersOf (canonicalRules (suc at) fs)
 

@@ -3,6 +3,8 @@ use Rattle.demands.specs.Demand1.{Demand1}
 use Rattle.demands.specs.Boundary.{AtTheBoundary}
 use Rattle.demands.specs.Demand2.{Demand2}
 use Rattle.demands.specs.Demand3.{Demand3}
+use Rattle.demands.specs.Determined.{Determined}
+use Rattle.demands.specs.Marked.{marked, AllAnswered}
 
 -- what is proved of Silamogo as a whole
 pub record Demands : Type 1 where
@@ -10,3 +12,7 @@ pub record Demands : Type 1 where
   pub first-at-the-boundary : AtTheBoundary
   pub second : Demand2
   pub third : Demand3
+  -- the contracts that give these definitions leave no two answers
+  pub determined : Determined
+  -- the marked cases have the answers that they owe
+  pub marked-cases : AllAnswered marked

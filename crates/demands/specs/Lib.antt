@@ -3,6 +3,8 @@
 pub mod Demands
 -- every call answers by its rules
 pub mod Demand1
+-- refusals 9, 10 and 11 of records and keys, by counts and lengths
+pub mod Lengths
 -- the same at the boundary, and for a whole input
 pub mod Boundary
 -- the sentences of demand 2

@@ -160,9 +160,32 @@ pub fn read(kinds: &[u8], key: &[u8], room: usize) -> String {
     fields.collect::<Vec<Value>>().text()
 }
 
+/// What a row holds, by its bits: a NaN isn't equal to itself.
+pub trait Item: Copy {
+    fn bits(self) -> u32;
+}
+
+impl Item for u8 {
+    fn bits(self) -> u32 {
+        self.into()
+    }
+}
+
+impl Item for u16 {
+    fn bits(self) -> u32 {
+        self.into()
+    }
+}
+
+impl Item for f32 {
+    fn bits(self) -> u32 {
+        self.to_bits()
+    }
+}
+
 /// A row into another, whose items are all `before`; the text of what comes of
 /// it.
-pub fn row<S, D: Copy + PartialEq>(
+pub fn row<S, D: Item>(
     call: unsafe extern "C" fn(*const S, usize, *mut D, usize) -> c::Answer,
     src: &[S],
     room: usize,
@@ -173,7 +196,10 @@ pub fn row<S, D: Copy + PartialEq>(
     let a = unsafe { call(src.as_ptr(), src.len(), dst.as_mut_ptr(), dst.len()) };
     match a.number {
         0 => text(&dst),
-        number => refused(number, a.place, dst.iter().all(|&item| item == before)),
+        number => {
+            let nothing = dst.iter().all(|item| item.bits() == before.bits());
+            refused(number, a.place, nothing)
+        }
     }
 }
 

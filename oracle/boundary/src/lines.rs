@@ -73,11 +73,12 @@ fn row(operands: Operands) -> Option<String> {
         (Kind::U16, Kind::U8) => {
             calls::row(c::silamogo_row_u16_to_u8, &words, room, 0xa5, text_of(to))
         }
+        // A signalling NaN: any operation on it would make it quiet.
         (Kind::U16, Kind::F32) => calls::row(
             c::silamogo_row_u16_to_f32,
             &words,
             room,
-            0.5,
+            f32::from_bits(0x7f80_0001),
             text_of_floats,
         ),
         (Kind::F32, Kind::U16) => {
