@@ -3,19 +3,23 @@
 use mathlib.Core.Path.{_≡_, refl, sym, _∙_, ap, subst}
 use mathlib.Core.Logic.{inl, inr}
 use mathlib.Core.Bool.{Bool, true, false, cond}
-use Prim.Native.Nat.{ℕ, zero, suc, _+_, _*_, _/_, _%_, _^_, _≤_, _<_}
-use native.Mathlib.Nat.{mul-one}
+use Prim.Native.Nat.{ℕ, zero, suc, _+_, _-_, _*_, _/_, _%_, _^_, _≤_, _<_}
+use native.Mathlib.Nat.{mul-one, mul-comm, suc-mul, le-of-lt, mod-lt, mod-eq-of-lt, mod-eq-sub-mod, mod-mod, mul-mod-left, mul-add-mod-self-right}
+use native.Mathlib.Nat.{div-add-mod', le-div-iff-mul-le, div-lt-iff-lt-mul, mul-div-cancel}
 use native.Mathlib.Omega.{arith}
-use borrow.Author.Tests.{lt-ltb, le-ltb, lt-leb, le-leb, eq-eqb, ne-eqb}
+use borrow.Author.Tests.{lt-ltb, le-ltb, eq-eqb, ne-eqb}
 use lib.Dec.{T, ltb, eqb, leb, lit<}
 use lib.IntN.{ℤ}
+use lib.Arith.{mod-mul}
+use lib.Pow.{pow-pos, pow-add}
 use lib.Ieee.{Float, nan, inf, fin, Format, binary32, binary64, prec, low, up, down, hid, ones, top, odd, ofFields, ofBits, toBits, isNan, fits}
 use lib.Ieee.Exact.{HasValue, odd-sign}
 use lib.Ieee.Bits.{ofBits-toBits, toBits-lt}
-use Rattle.float.specs.Format.{fractionOf, exponentOf, infOf, negativeOf, absOf, nanOf, magAt, magOf}
+use Rattle.float.specs.Format.{fractionOf, exponentOf, signOf, infOf, negativeOf, absOf, nanOf, magAt, magOf}
 use Rattle.float.specs.Number.{Exact, notNumber, infinite, finite, isNone, times}
 use Rattle.float.specs.Order.{patternOf}
 use Rattle.float.proofs.Naturals.{lt-or-ge, three-ways}
+use Rattle.float.proofs.Magnitude.{abs-clear, abs-set}
 
 -- ---- what a float stands for
 
@@ -29,101 +33,136 @@ of-value f nan s a v = absurd v
 of-value f (inf t) s a v = absurd v
 of-value f (fin t m e) s a v = subst (λ (b : Bool). Means f (fin t m e) (finite b a)) (v .0) (means-fin t m e a (v .1))
 
--- the fields of a pattern: sign, exponent and fraction
-abbrev fieldsExact : Format → Bool → ℕ → ℕ → Exact
-fieldsExact f s E t = cond (eqb E (ones f)) (cond (eqb t 0) (infinite s) notNumber) (finite s (magAt (fractionOf f) E t))
+-- ---- the language's numbers of a format are powers of two
 
 hidden : (f : Format) → hid f ≡ 2 ^ fractionOf f
 hidden binary32 = refl
 hidden binary64 = refl
 
-fields-mean : (f : Format) (s : Bool) (E t : ℕ) → Means f (ofFields f s E t) (fieldsExact f s E t)
-unfolding ofFields
-fields-mean binary32 s zero t =
-    subst (λ (a : ℕ). Means binary32 (odd 24 s t 0 149) (finite s a)) (mul-one t) (of-value binary32 _ s (t * 1) (odd-sign 24 s t 0 149))
-fields-mean binary64 s zero t =
-    subst (λ (a : ℕ). Means binary64 (odd 53 s t 0 1074) (finite s a)) (mul-one t) (of-value binary64 _ s (t * 1) (odd-sign 53 s t 0 1074))
-fields-mean f s (suc x) t = go (eqb (suc x) (ones f)) (eqb t 0)
-  where
-    go : (b c : Bool) → Means f (cond b (cond c (inf s) nan) (odd (prec f) s (hid f + t) x (low f)))
-        (cond b (cond c (infinite s) notNumber) (finite s ((2 ^ fractionOf f + t) * 2 ^ x)))
-    go true true = means-inf s
-    go true false = means-nan
-    go false c = subst (λ (h : ℕ). Means f (odd (prec f) s (hid f + t) x (low f)) (finite s ((h + t) * 2 ^ x))) (hidden f)
-        (of-value f _ s ((hid f + t) * 2 ^ x) (odd-sign (prec f) s (hid f + t) x (low f)))
+all-ones : (f : Format) → ones f ≡ 2 ^ exponentOf f - 1
+all-ones binary32 = refl
+all-ones binary64 = refl
 
--- ---- a pattern's fields, by its abs
+some-ones : (f : Format) → eqb 0 (ones f) ≡ false
+some-ones binary32 = refl
+some-ones binary64 = refl
 
-abs-rest : (f : Format) (b : ℕ) → b < 2 * top f → b % top f ≡ absOf (fractionOf f) (exponentOf f) b
-unfolding absOf
-abs-rest binary32 b h = elim (lt-or-ge b (2 ^ 31)) [ inl l ↦ simp (lt-leb (2 ^ 31) b l) (omega arith) | inr g ↦ simp (le-leb (2 ^ 31) b g) (omega arith) ]
-abs-rest binary64 b h = elim (lt-or-ge b (2 ^ 63)) [ inl l ↦ simp (lt-leb (2 ^ 63) b l) (omega arith) | inr g ↦ simp (le-leb (2 ^ 63) b g) (omega arith) ]
+sign-top : (f : Format) → top f ≡ signOf (fractionOf f) (exponentOf f)
+sign-top binary32 = refl
+sign-top binary64 = refl
 
-sign-bit : (f : Format) (b : ℕ) → leb (top f) b ≡ negativeOf (fractionOf f) (exponentOf f) b
-sign-bit binary32 b = refl
-sign-bit binary64 b = refl
-
-fraction-rest : (f : Format) (b : ℕ) → b % hid f ≡ b % top f % 2 ^ fractionOf f
-fraction-rest binary32 b = omega arith
-fraction-rest binary64 b = omega arith
-
--- above, at and below the infinity's abs
 pub infinity-positive : (f : Format) → 0 < infOf (fractionOf f) (exponentOf f)
 infinity-positive binary32 = lit< tt
 infinity-positive binary64 = lit< tt
 
-fields-above : (f : Format) (x : ℕ) → x < top f → infOf (fractionOf f) (exponentOf f) < x → (x / 2 ^ fractionOf f ≡ ones f) × (x % 2 ^ fractionOf f ≡ 0 → ⊥)
-fields-above binary32 x h l = (omega arith, λ q. omega arith)
-fields-above binary64 x h l = (omega arith, λ q. omega arith)
+-- ---- the fields of a pattern: sign, exponent and fraction; `last` is the exponent field of all ones
 
-fields-at : (f : Format) (x : ℕ) → x ≡ infOf (fractionOf f) (exponentOf f) → (x / 2 ^ fractionOf f ≡ ones f) × (x % 2 ^ fractionOf f ≡ 0)
-fields-at binary32 x q = (omega arith, omega arith)
-fields-at binary64 x q = (omega arith, omega arith)
+abbrev fieldsExact : ℕ → ℕ → Bool → ℕ → ℕ → Exact
+fieldsExact p last s E t = cond (eqb E last) (cond (eqb t 0) (infinite s) notNumber) (finite s (magAt p E t))
 
-fields-below : (f : Format) (x : ℕ) → x < infOf (fractionOf f) (exponentOf f) → x / 2 ^ fractionOf f ≡ ones f → ⊥
-fields-below binary32 x h q = omega arith
-fields-below binary64 x h q = omega arith
+module _ (f : Format) (s : Bool) where
+  fields-value : (m x : ℕ) → Means f (odd (prec f) s m x (low f)) (finite s (m * 2 ^ x))
+  fields-value m x = of-value f _ s (m * 2 ^ x) (odd-sign (prec f) s m x (low f))
 
-rest-below : (f : Format) (b : ℕ) → b % top f < top f
-rest-below binary32 b = omega arith
-rest-below binary64 b = omega arith
+  fields-mean : (E t : ℕ) → Means f (ofFields f s E t) (fieldsExact (fractionOf f) (ones f) s E t)
+  unfolding ofFields
+  fields-mean zero t = rw (some-ones f) (subst (λ (a : ℕ). Means f (odd (prec f) s t 0 (low f)) (finite s a)) (mul-one t) (fields-value t 0))
+  fields-mean (suc x) t = go (eqb (suc x) (ones f)) (eqb t 0)
+    where
+      go : (b c : Bool) → Means f (cond b (cond c (inf s) nan) (odd (prec f) s (hid f + t) x (low f)))
+          (cond b (cond c (infinite s) notNumber) (finite s ((2 ^ fractionOf f + t) * 2 ^ x)))
+      go true true = means-inf s
+      go true false = means-nan
+      go false c = subst (λ (h : ℕ). Means f (odd (prec f) s (hid f + t) x (low f)) (finite s ((h + t) * 2 ^ x))) (hidden f) (fields-value (hid f + t) x)
 
-abbrev byAbs : Format → Bool → ℕ → Exact
-byAbs f s x =
-    cond (ltb (infOf (fractionOf f) (exponentOf f)) x) notNumber
-    (cond (eqb x (infOf (fractionOf f) (exponentOf f))) (infinite s)
-    (finite s (magAt (fractionOf f) (x / 2 ^ fractionOf f) (x % 2 ^ fractionOf f))))
+-- ---- a number x that is cut after P places: how its front lies to q
 
-fields-by-abs : (f : Format) (s : Bool) (x : ℕ) → x < top f → fieldsExact f s (x / 2 ^ fractionOf f) (x % 2 ^ fractionOf f) ≡ byAbs f s x
-fields-by-abs f s x h =
-    elim (three-ways x (infOf (fractionOf f) (exponentOf f))) [
-      | inl l ↦
-          let k : x ≤ infOf (fractionOf f) (exponentOf f) = omega arith in
-          simp (ne-eqb (x / 2 ^ fractionOf f) (ones f) (fields-below f x l), le-ltb _ _ k, ne-eqb x (infOf (fractionOf f) (exponentOf f)) (λ q. omega arith))
-      | inr (inl q) ↦
-          let k : x ≤ infOf (fractionOf f) (exponentOf f) = omega arith in
-          simp (eq-eqb (x / 2 ^ fractionOf f) (ones f) (fields-at f x q .0), eq-eqb (x % 2 ^ fractionOf f) 0 (fields-at f x q .1), le-ltb _ _ k, eq-eqb x _ q)
-      | inr (inr g) ↦ simp (
-        eq-eqb (x / 2 ^ fractionOf f) (ones f) (fields-above f x h g .0),
-        ne-eqb (x % 2 ^ fractionOf f) 0 (fields-above f x h g .1),
-        lt-ltb _ _ g,
-      )
-    ]
+module _ (P q x : ℕ) (some : 0 < P) where
+  front-below : x < q * P → x / P < q
+  front-below h = div-lt-iff-lt-mul {k = P} {x = x} {y = q} some .1 h
 
-fields-pattern : (f : Format) (b : ℕ) → b < 2 * top f
-    → fieldsExact f (leb (top f) b) (b % top f / hid f) (b % hid f) ≡ patternOf (fractionOf f) (exponentOf f) b
-unfolding patternOf magOf
-fields-pattern f b h =
-    ap (fieldsExact f (leb (top f) b) (b % top f / hid f)) (fraction-rest f b)
-    ∙ ap (λ (k : ℕ). fieldsExact f (leb (top f) b) (b % top f / k) (b % top f % 2 ^ fractionOf f)) (hidden f)
-    ∙ fields-by-abs f (leb (top f) b) (b % top f) (rest-below f b)
-    ∙ ap (byAbs f (leb (top f) b)) (abs-rest f b h)
-    ∙ ap (λ (s : Bool). byAbs f s (absOf (fractionOf f) (exponentOf f) b)) (sign-bit f b)
+  front-is : q * P ≤ x → x < suc q * P → x / P ≡ q
+  front-is l h =
+      let above : q ≤ x / P = le-div-iff-mul-le {k = P} {x = q} {y = x} some .1 l in
+      let below : x / P < suc q = div-lt-iff-lt-mul {k = P} {x = x} {y = suc q} some .1 h in
+      omega arith
+
+  rest-positive : q * P < x → x / P ≡ q → x % P ≡ 0 → ⊥
+  rest-positive l e z = let whole : x / P * P + x % P ≡ x = div-add-mod' x P in let same : x / P * P ≡ q * P = ap (λ (n : ℕ). n * P) e in omega arith
+
+-- ---- a pattern's fields, by its abs
+
+module _ (p e : ℕ) where
+  abbrev last : ℕ
+  last = 2 ^ e - 1
+
+  -- the sign's weight is one front more than the infinity
+  sign-split : signOf p e ≡ suc last * 2 ^ p
+  sign-split = let k : suc last ≡ 2 ^ e = let h = pow-pos e in omega arith in pow-add 2 p e ∙ mul-comm (2 ^ p) (2 ^ e) ∙ ap (λ (n : ℕ). n * 2 ^ p) (sym k)
+
+  infinity-split : infOf p e ≡ last * 2 ^ p
+  infinity-split = omega (arith, sign-split, suc-mul last (2 ^ p))
+
+  abs-rest : (b : ℕ) → b < 2 * signOf p e → b % signOf p e ≡ absOf p e b
+  abs-rest b h = elim (lt-or-ge b (signOf p e)) [
+    | inl l ↦ mod-eq-of-lt l ∙ sym (abs-clear p e b l)
+    | inr g ↦ mod-eq-sub-mod g ∙ mod-eq-of-lt (omega arith) ∙ sym (abs-set p e b g)
+  ]
+
+  fraction-rest : (b : ℕ) → b % signOf p e % 2 ^ p ≡ b % 2 ^ p
+  fraction-rest b =
+      ap (λ (n : ℕ). b % n % 2 ^ p) (pow-add 2 p e ∙ mul-comm (2 ^ p) (2 ^ e))
+      ∙ ap (λ (n : ℕ). n % 2 ^ p) (mod-mul b (pow-pos e) (pow-pos p))
+      ∙ mul-add-mod-self-right (b / 2 ^ p % 2 ^ e) (2 ^ p) (b % 2 ^ p)
+      ∙ mod-mod b (2 ^ p)
+
+  module _ (x : ℕ) where
+    fields-above : x < signOf p e → infOf p e < x → (x / 2 ^ p ≡ last) × (x % 2 ^ p ≡ 0 → ⊥)
+    fields-above h l =
+        let low : last * 2 ^ p < x = omega (arith, infinity-split) in
+        let front = front-is (2 ^ p) last x (pow-pos p) (le-of-lt low) (omega (arith, sign-split)) in
+        (front, rest-positive (2 ^ p) last x (pow-pos p) low front)
+
+    fields-at : x ≡ infOf p e → (x / 2 ^ p ≡ last) × (x % 2 ^ p ≡ 0)
+    fields-at q =
+        let is : x ≡ last * 2 ^ p = q ∙ infinity-split in
+        (ap (λ (n : ℕ). n / 2 ^ p) is ∙ mul-div-cancel last (pow-pos p), ap (λ (n : ℕ). n % 2 ^ p) is ∙ mul-mod-left last (2 ^ p))
+
+    fields-below : x < infOf p e → x / 2 ^ p ≡ last → ⊥
+    fields-below h q = let l = front-below (2 ^ p) last x (pow-pos p) (omega (arith, infinity-split)) in omega arith
+
+  abbrev byAbs : Bool → ℕ → Exact
+  byAbs s x = cond (ltb (infOf p e) x) notNumber (cond (eqb x (infOf p e)) (infinite s) (finite s (magAt p (x / 2 ^ p) (x % 2 ^ p))))
+
+  fields-by-abs : (s : Bool) (x : ℕ) → x < signOf p e → fieldsExact p last s (x / 2 ^ p) (x % 2 ^ p) ≡ byAbs s x
+  fields-by-abs s x h =
+      elim (three-ways x (infOf p e)) [
+        | inl l ↦ simp (ne-eqb (x / 2 ^ p) last (fields-below x l), le-ltb _ _ (le-of-lt l), ne-eqb x (infOf p e) (λ q. omega arith))
+        | inr (inl q) ↦
+            let k : x ≤ infOf p e = omega arith in
+            simp (eq-eqb (x / 2 ^ p) last (fields-at x q .0), eq-eqb (x % 2 ^ p) 0 (fields-at x q .1), le-ltb _ _ k, eq-eqb x _ q)
+        | inr (inr g) ↦ simp (eq-eqb (x / 2 ^ p) last (fields-above x h g .0), ne-eqb (x % 2 ^ p) 0 (fields-above x h g .1), lt-ltb _ _ g)
+      ]
+
+  fields-pattern : (b : ℕ) → b < 2 * signOf p e → fieldsExact p last (leb (signOf p e) b) (b % signOf p e / 2 ^ p) (b % 2 ^ p) ≡ patternOf p e b
+  unfolding patternOf magOf
+  fields-pattern b h =
+      ap (fieldsExact p last (leb (signOf p e) b) (b % signOf p e / 2 ^ p)) (sym (fraction-rest b))
+      ∙ fields-by-abs (leb (signOf p e) b) (b % signOf p e) (mod-lt b (pow-pos (p + e)))
+      ∙ ap (byAbs (leb (signOf p e) b)) (abs-rest b h)
 
 -- the float of a pattern, and a float with its pattern
 pub pattern-means : (f : Format) (b : ℕ) → b < 2 * top f → Means f (ofBits f b) (patternOf (fractionOf f) (exponentOf f) b)
 unfolding ofBits
-pattern-means f b h = subst (λ (k : Exact). Means f (ofBits f b) k) (fields-pattern f b h) (fields-mean f (leb (top f) b) (b % top f / hid f) (b % hid f))
+pattern-means f b h =
+    let p = fractionOf f in
+    let e = exponentOf f in
+    let is : fieldsExact p (ones f) (leb (top f) b) (b % top f / hid f) (b % hid f) ≡ patternOf p e b =
+    ap (λ (n : ℕ). fieldsExact p n (leb (top f) b) (b % top f / hid f) (b % hid f)) (all-ones f)
+    ∙ ap (λ (n : ℕ). fieldsExact p (last p e) (leb (top f) b) (b % top f / n) (b % n)) (hidden f)
+    ∙ ap (λ (n : ℕ). fieldsExact p (last p e) (leb n b) (b % n / 2 ^ p) (b % 2 ^ p)) (sign-top f)
+    ∙ fields-pattern p e b (subst (λ (n : ℕ). b < 2 * n) (sign-top f) h) in
+    subst (λ (k : Exact). Means f (ofBits f b) k) is (fields-mean f (leb (top f) b) (b % top f / hid f) (b % hid f))
 
 pub float-means : (f : Format) (x : Float) → T (fits f x) → Means f x (patternOf (fractionOf f) (exponentOf f) (toBits f x))
 float-means f x h = subst (λ (v : Float). Means f v (patternOf (fractionOf f) (exponentOf f) (toBits f x))) (ofBits-toBits f x h)
