@@ -4,6 +4,8 @@ pub mod Boundary
 pub mod Floats
 pub mod Conversion
 pub mod Choosing
+pub mod Rows
+pub mod LentRows
 pub mod Demand2
 pub mod Demand3
 pub mod Determined

@@ -15,6 +15,10 @@ pub mod Floats
 pub mod Conversion
 -- records compared, samples chosen and clamped
 pub mod Choosing
+-- rows of samples, accepted and refused
+pub mod Rows
+-- the choice between lent rows of bytes
+pub mod LentRows
 -- keys and the order of their bytes
 pub mod Demand3
 -- no two outcomes meet a contract
