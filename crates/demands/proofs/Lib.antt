@@ -3,6 +3,8 @@ pub mod Lengths
 pub mod Boundary
 pub mod Floats
 pub mod Conversion
+pub mod Refusing
+pub mod Clamping
 pub mod Choosing
 pub mod Rows
 pub mod LentRows

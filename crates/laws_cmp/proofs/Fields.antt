@@ -1,10 +1,13 @@
 -- The laws of lists of fields, each by one induction from the law of one field.
+use Prim.Native.Nat.{zero, suc}
 use mathlib.Core.Path.{_≡_, refl, sym, ap}
 use mathlib.Core.Logic.{_⊎_, inl, inr}
 use mathlib.Core.List.{List, [], _∷_}
+use native.Mathlib.Omega.{arith}
 use Rattle.float.specs.declared.Order.{Order}
 use Rattle.float.specs.declared.Order.the-variants.{Less, Equal, Greater, Unordered}
 use Rattle.float.specs.Order.{orderOf, orElse}
+use Rattle.float.proofs.Tests.{clash}
 use Rattle.float.proofs.Turned.{turned, turn}
 use Rattle.float.proofs.Transitive.{less-trans}
 use Rattle.float.proofs.SameNumber.{equal-same}
@@ -41,17 +44,21 @@ equal-else Unordered p h = (h, cc)
 
 -- ---- Equal exactly when every field is
 
-pub every-equal : (xs ys : List Field) → lexicalOf xs ys ≡ Equal → AllEqual xs ys
+pub every-equal : (xs ys : List Field) → kindsOf xs ≡ kindsOf ys → lexicalOf xs ys ≡ Equal → AllEqual xs ys
 unfolding lexicalOf
-every-equal [] ys h = tt
-every-equal (x ∷ xs) [] h = tt
-every-equal (x ∷ xs) (y ∷ ys) h = let e = equal-else (valueOrder (x .value) (y .value)) (lexicalOf xs ys) h in (e .0, every-equal xs ys (e .1))
+every-equal [] ys s h i l = absurd (omega arith)
+every-equal (x ∷ xs) [] s h i l = clash cc
+every-equal (x ∷ xs) (y ∷ ys) s h zero l =
+    order-compared (x .value) (y .value) Equal (cc) (equal-else (valueOrder (x .value) (y .value)) (lexicalOf xs ys) h .0)
+every-equal (x ∷ xs) (y ∷ ys) s h (suc i) l =
+    every-equal xs ys (cc) (equal-else (valueOrder (x .value) (y .value)) (lexicalOf xs ys) h .1) i (omega arith)
 
 pub equal-every : (xs ys : List Field) → AllEqual xs ys → lexicalOf xs ys ≡ Equal
 unfolding lexicalOf
 equal-every [] ys t = refl
 equal-every (x ∷ xs) [] t = refl
-equal-every (x ∷ xs) (y ∷ ys) t = rw (t .0) (equal-every xs ys (t .1))
+equal-every (x ∷ xs) (y ∷ ys) t =
+    rw (compared-order (x .value) (y .value) Equal (t 0 (omega arith)) .1) (equal-every xs ys (λ i l. t (suc i) (omega arith)))
 
 -- ---- turned round
 

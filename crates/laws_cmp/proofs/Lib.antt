@@ -4,5 +4,6 @@ pub mod Integers
 pub mod Carried
 pub mod Choices
 pub mod Fields
+pub mod FirstField
 pub mod Records
 pub mod RecordChoices

@@ -1,19 +1,21 @@
 -- What a comparison owes. A refusal is no order: two values of different kinds meet no law, and need none.
+use Prim.Native.Nat.{ℕ, _<_}
 use mathlib.Core.Path.{_≡_}
 use mathlib.Core.Logic.{_⊎_}
 use mathlib.Core.Bool.{Bool, true, false}
 use mathlib.Core.List.{List, [], _∷_}
 use lib.Dec.{T}
+use lib.ListN.{length}
 use Rattle.float.specs.declared.Order.{Order}
 use Rattle.float.specs.declared.Order.the-variants.{Less, Equal, Greater}
 use Rattle.value.specs.declared.Value.{Value}
 use Rattle.value.specs.Kinds.{kindOf, formOf, isInteger}
 use Rattle.float.specs.Order.{isEqual}
 use Rattle.value.specs.Outcome.{Outcome, gives, mapped}
-use Rattle.cmp.specs.Compare.{valueOrder}
+use Rattle.cmp.specs.Compare as cmp
 use Rattle.record.specs.declared.Field.{Field}
 use Rattle.record.specs.declared.Record.{Record}
-use Rattle.record.specs.Record.{fieldsOf, kindsOf, badCount}
+use Rattle.record.specs.Record.{fieldsOf, valueAt, kindsOf, badCount}
 use Rattle.lexical.specs.Lexical.{compareOf}
 
 -- obeys_partial_cmp_spec_properties, with symmetry and transitivity of eq in place of obeys_eq_spec_properties
@@ -69,8 +71,18 @@ SameFields a b = fieldsOf a ≡ fieldsOf b
 abbrev pub recordsEq : Record → Record → Outcome Bool
 recordsEq a b = mapped isEqual (compareOf a b)
 
+-- the comparison of the fields at one index
+abbrev pub fieldOrder : List Field → List Field → ℕ → Outcome Order
+fieldOrder xs ys i = cmp.compareOf (valueAt xs i) (valueAt ys i)
+
 -- every field is Equal
 abbrev pub AllEqual : List Field → List Field → Type 0
-AllEqual [] ys = Unit
-AllEqual (x ∷ xs) [] = Unit
-AllEqual (x ∷ xs) (y ∷ ys) = (valueOrder (x .value) (y .value) ≡ Equal) × AllEqual xs ys
+AllEqual xs ys = (i : ℕ) → i < length xs → fieldOrder xs ys i ≡ gives Equal
+
+-- the fields at i decide with the order o: there is one on each side, those before it are Equal, and it isn't
+pub record DecidesAt (i : ℕ) (xs ys : List Field) (o : Order) : Type 0 where
+  pub in-first : i < length xs
+  pub in-second : i < length ys
+  pub equal-before : (j : ℕ) → j < i → fieldOrder xs ys j ≡ gives Equal
+  pub decides : fieldOrder xs ys i ≡ gives o
+  pub not-equal : o ≡ Equal → ⊥
