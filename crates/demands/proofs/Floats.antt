@@ -1,36 +1,44 @@
 -- The sentence of demand 2 on classes, comparison and total order: of patterns, and of the values that have them.
 use Prim.Native.Nat.{ℕ, _≤_}
 use mathlib.Core.Path.{_≡_, refl, sym, _∙_, ap, subst}
+use mathlib.Core.Logic.{_↔_}
 use mathlib.Core.Bool.{Bool, true, false, cond}
+use mathlib.Core.List.{_∷_}
+use native.Mathlib.Omega.{arith}
 use borrow.Author.Tests.{ltb-true, eqb-true}
 use lib.Dec.{lit≤}
 use lib.IntN.{ℤ}
 use lib.Ieee.{Format, binary32, binary64}
-use Rattle.float.specs.declared.Order.the-variants.{Less, Greater}
+use Rattle.float.specs.declared.Class.the-variants.{Zero, Subnormal, Normal, Infinite, Nan}
+use Rattle.float.specs.declared.Order.{Order}
+use Rattle.float.specs.declared.Order.the-variants.{Less, Greater, Unordered}
 use Rattle.float.specs.Format.{fractionOf, exponentOf, signOf, negativeOf, infiniteOf, scaledOf}
 use Rattle.float.specs.Format as float-format
 use Rattle.float.specs.Number.{Number, number, infinityOf, times}
 use Rattle.float.specs.Number as float-number
-use Rattle.float.specs.Order.{orderZ, orderOf, patternOf}
+use Rattle.float.specs.Order.{orderZ, orderOf, patternOf, isEqual, isNotEqual, isLess, isLessOrEqual, isGreater, isGreaterOrEqual}
 use Rattle.float.specs.Order as float-order
 use Rattle.float.proofs.Tests.{clash}
 use Rattle.float.proofs.ClassMeaning.{class-means, number-scaled}
+use Rattle.float.proofs.ClassBounds.{class-bounds, finite-classes, class-only}
+use Rattle.float.proofs.Agreement.{nan-outside, zeros-ordered}
 use Rattle.float.proofs.Comparing.{compare-nan-left, compare-nan-right, pattern-infinite}
 use Rattle.float.proofs.Place.{patternAt, pattern-lt, position-pattern, position-injective, position-fits}
 use Rattle.value.specs.declared.Value.{Value}
 use Rattle.value.specs.declared.Value.the-variants.{U8, U16, U32, U64, I8, I16, I32, I64, F32, F64}
 use Rattle.value.specs.Kinds.{floating, formOf}
 use Rattle.value.specs.Meaning.{stepOf, bitsOf, exactOf, positionOf}
-use Rattle.value.specs.Outcome.{gives}
+use Rattle.value.specs.Outcome.{gives, refuses, mapped}
 use Rattle.value.proofs.TwosComplement.{fits-below, below-fits}
-use Rattle.cmp.specs.Compare.{compareOf, totalOf}
+use Rattle.cmp.specs.Compare.{compareOf, neOf, totalOf}
 use Rattle.cmp.proofs.Given.{order-compared, order-total}
 use Rattle.cmp.proofs.Numbers.{patterns-order, positions-order}
 use Rattle.laws_cmp.specs.Laws.{OneKind, OneIntegerKind}
 use Rattle.laws_cmp.proofs.Comparison.{values-partial-order}
 use Rattle.laws_cmp.proofs.Integers.{integers-linear-order}
-use Rattle.laws_cmp.proofs.TotalOrder.{other-whole, values-total-order}
-use Rattle.demands.specs.Floats.{Floats, OfForm, Values}
+use Rattle.laws_cmp.proofs.TotalOrder.{other-whole, values-total-order, less-total, greater-total}
+use Rattle.laws_cmp.proofs.Tests.{eq-exactly, lt-exactly, gt-exactly, le-exactly, ge-exactly, ne-turns, refused-exactly}
+use Rattle.demands.specs.Floats.{Floats, OfForm, Every, orderTests, Tests, Values}
 
 -- ---- patterns
 
@@ -54,6 +62,13 @@ outside-right false z = refl
 pub patterns : (p e : ℕ) → 2 ≤ e → Floats p e
 patterns p e h = record {
   class-means = λ b. class-means p e b h;
+  class-only = λ b. class-only p e b h;
+  zero-class = λ b. class-bounds p e b enough Zero;
+  subnormal-class = λ b. class-bounds p e b enough Subnormal;
+  normal-class = λ b. class-bounds p e b enough Normal;
+  infinite-class = λ b. class-bounds p e b enough Infinite;
+  nan-class = λ b. class-bounds p e b enough Nan;
+  finite-classes = λ b. finite-classes p e b enough;
   nan-left = λ a b n. sym (compare-nan-left p e a b refl (ltb-true _ _ n));
   nan-right = λ a b n. sym (compare-nan-right p e a b refl (ltb-true _ _ n));
   infinite-finite = λ a b i f. by-numbers p e a b (infinite-number p e a i) (number-scaled p e b f) ∙ outside-left (negativeOf p e a) (scaledOf p e b);
@@ -63,7 +78,12 @@ patterns p e h = record {
   own-position = position-injective p e;
   position-fits = λ b h. below-fits (signOf p e) (float-format.positionOf p e b) (position-fits p e b h);
   position-reached = λ z h. let m = fits-below (signOf p e) z h in (patternAt p e z, pattern-lt p e z m, position-pattern p e z m);
+  nan-outside = nan-outside p e;
+  zeros-ordered = zeros-ordered p e;
 }
+  where
+    enough : 1 ≤ e
+    enough = omega arith
 
 pub of-format : (f : Format) → Floats (fractionOf f) (exponentOf f)
 of-format binary32 = patterns 23 8 (lit≤ tt)
@@ -102,6 +122,33 @@ module _ (f : Format) (a b : Value) (k : OneKind a b) (o : OfForm (floating f) a
 integers-compare : (a b : Value) → OneIntegerKind a b → compareOf a b ≡ gives (orderZ (positionOf a) (positionOf b))
 integers-compare a b h = order-compared a b _ (h .1) (positions-order a b (h .0) (other-whole a b (h .1) (h .0)))
 
+-- ---- the six tests
+
+module _ (a b : Value) where
+  unordered : compareOf a b ≡ gives Unordered → Every (λ test. test ≡ gives false) (orderTests a b) × (neOf a b ≡ gives true)
+  unordered h = ((on isEqual, (on isLess, (on isLessOrEqual, (on isGreater, (on isGreaterOrEqual, tt))))), on isNotEqual)
+    where
+      on : (test : Order → Bool) → mapped test (compareOf a b) ≡ gives (test Unordered)
+      on test = ap (mapped test) h
+
+  refused : (n p : ℕ) → Every (λ test. (test ≡ refuses n p) ↔ (compareOf a b ≡ refuses n p)) (neOf a b ∷ orderTests a b)
+  refused n p = (of isNotEqual, (of isEqual, (of isLess, (of isLessOrEqual, (of isGreater, (of isGreaterOrEqual, tt))))))
+    where
+      of : (test : Order → Bool) → (mapped test (compareOf a b) ≡ refuses n p) ↔ (compareOf a b ≡ refuses n p)
+      of test = refused-exactly test (compareOf a b) n p
+
+of-tests : Tests
+of-tests = record {
+  eq-exactly = λ a b. eq-exactly (compareOf a b);
+  lt-exactly = λ a b. lt-exactly (compareOf a b);
+  gt-exactly = λ a b. gt-exactly (compareOf a b);
+  le-exactly = λ a b. le-exactly (compareOf a b);
+  ge-exactly = λ a b. ge-exactly (compareOf a b);
+  ne-turns = λ a b. ne-turns (compareOf a b);
+  unordered = unordered;
+  refused = refused;
+}
+
 pub of-values : Values
 of-values = record {
   floats-compare = floats-compare;
@@ -111,4 +158,7 @@ of-values = record {
   partial-order = values-partial-order;
   integer-order = integers-linear-order;
   total-order = values-total-order;
+  total-less = less-total;
+  total-greater = greater-total;
+  tests = of-tests;
 }

@@ -1,11 +1,15 @@
 -- Classes, comparison and total order, of the patterns of a float format and of values. RULES.md: Bits and classes to Total order.
 use Prim.Native.Nat.{ℕ, _*_, _<_}
 use mathlib.Core.Path.{_≡_}
-use mathlib.Core.Bool.{true, cond}
+use mathlib.Core.Logic.{_↔_, _⊎_}
+use mathlib.Core.Bool.{Bool, true, false, not, cond}
+use mathlib.Core.List.{List, [], _∷_}
 use lib.IntN.{ℤ}
 use lib.Ieee.{Format}
-use Rattle.float.specs.declared.Order.the-variants.{Less, Greater, Unordered}
-use Rattle.float.specs.Format.{fractionOf, exponentOf, signOf, negativeOf, finiteOf, infiniteOf, nanOf, classOf, scaledOf}
+use Rattle.float.specs.declared.Class.{Class}
+use Rattle.float.specs.declared.Class.the-variants.{Zero, Subnormal, Normal, Infinite, Nan}
+use Rattle.float.specs.declared.Order.the-variants.{Less, Equal, Greater, Unordered}
+use Rattle.float.specs.Format.{fractionOf, exponentOf, signOf, negativeOf, zeroOf, subnormalOf, normalOf, finiteOf, infiniteOf, nanOf, classOf, scaledOf}
 use Rattle.float.specs.Format as float-format
 use Rattle.float.specs.Number.{infinityOf}
 use Rattle.float.specs.Order.{orderZ, orderOf}
@@ -14,8 +18,8 @@ use Rattle.float.specs.ClassMeaning.{ClassMeans}
 use Rattle.value.specs.declared.Value.{Value}
 use Rattle.value.specs.Kinds.{kindOf, Form, floating, formOf}
 use Rattle.value.specs.Meaning.{fitsSigned, bitsOf, positionOf}
-use Rattle.value.specs.Outcome.{gives}
-use Rattle.cmp.specs.Compare.{compareOf, eqOf, totalOf}
+use Rattle.value.specs.Outcome.{Outcome, gives, refuses, mapped}
+use Rattle.cmp.specs.Compare.{compareOf, eqOf, neOf, ltOf, leOf, gtOf, geOf, totalOf}
 use Rattle.laws_cmp.specs.Laws.{PartialOrder, LinearOrder, OneKind, OneIntegerKind}
 
 -- ---- "Classes, comparison and total order are IEEE 754-2019's", of each float format, by the patterns
@@ -24,6 +28,16 @@ use Rattle.laws_cmp.specs.Laws.{PartialOrder, LinearOrder, OneKind, OneIntegerK
 pub record Floats (p e : ℕ) : Type 0 where
   -- a pattern of each class stands for what the class says
   pub class-means : (b : ℕ) → ClassMeans p e b (classOf p e b)
+  -- and it is so of no other class
+  pub class-only : (b : ℕ) (c : Class) → ClassMeans p e b c → c ≡ classOf p e b
+  -- each class by its own bounds of abs
+  pub zero-class : (b : ℕ) → (zeroOf p e b ≡ true) ↔ (classOf p e b ≡ Zero)
+  pub subnormal-class : (b : ℕ) → (subnormalOf p e b ≡ true) ↔ (classOf p e b ≡ Subnormal)
+  pub normal-class : (b : ℕ) → (normalOf p e b ≡ true) ↔ (classOf p e b ≡ Normal)
+  pub infinite-class : (b : ℕ) → (infiniteOf p e b ≡ true) ↔ (classOf p e b ≡ Infinite)
+  pub nan-class : (b : ℕ) → (nanOf p e b ≡ true) ↔ (classOf p e b ≡ Nan)
+  -- the finite patterns are those of three classes
+  pub finite-classes : (b : ℕ) → (finiteOf p e b ≡ true) ↔ ((classOf p e b ≡ Zero) ⊎ ((classOf p e b ≡ Subnormal) ⊎ (classOf p e b ≡ Normal)))
   -- NaN on either side gives Unordered
   pub nan-left : (a b : ℕ) → nanOf p e a ≡ true → float-order.compareOf p e a b ≡ Unordered
   pub nan-right : (a b : ℕ) → nanOf p e b ≡ true → float-order.compareOf p e a b ≡ Unordered
@@ -38,12 +52,40 @@ pub record Floats (p e : ℕ) : Type 0 where
   pub own-position : (a b : ℕ) → float-format.positionOf p e a ≡ float-format.positionOf p e b → a ≡ b
   pub position-fits : (b : ℕ) → b < 2 * signOf p e → fitsSigned (signOf p e) (float-format.positionOf p e b)
   pub position-reached : (z : ℤ) → fitsSigned (signOf p e) z → (b : ℕ) × (b < 2 * signOf p e) × (float-format.positionOf p e b ≡ z)
+  -- in the total order the NaN lie outside all other patterns, by their sign, and minus zero lies below plus zero
+  pub nan-outside : (a b : ℕ) → nanOf p e a ≡ true → nanOf p e b ≡ false
+      → orderZ (float-format.positionOf p e a) (float-format.positionOf p e b) ≡ cond (negativeOf p e a) Less Greater
+  pub zeros-ordered : orderZ (float-format.positionOf p e (signOf p e)) (float-format.positionOf p e 0) ≡ Less
 
 -- ---- the same of values
 
 -- values of a kind of this form
 abbrev pub OfForm : Form → Value → Type 0
 OfForm form v = formOf (kindOf v) ≡ form
+
+-- each of a list is so
+abbrev pub Every : {A : Type 0} → (A → Type 0) → List A → Type 0
+Every P [] = Unit
+Every P (x ∷ xs) = P x × Every P xs
+
+-- the five tests that ask for an order
+abbrev pub orderTests : Value → Value → List (Outcome Bool)
+orderTests a b = eqOf a b ∷ ltOf a b ∷ leOf a b ∷ gtOf a b ∷ geOf a b ∷ []
+
+-- the six tests, of any two values
+pub record Tests : Type 0 where
+  -- a test is yes exactly of the orders that it asks for
+  pub eq-exactly : (a b : Value) → (eqOf a b ≡ gives true) ↔ (compareOf a b ≡ gives Equal)
+  pub lt-exactly : (a b : Value) → (ltOf a b ≡ gives true) ↔ (compareOf a b ≡ gives Less)
+  pub gt-exactly : (a b : Value) → (gtOf a b ≡ gives true) ↔ (compareOf a b ≡ gives Greater)
+  pub le-exactly : (a b : Value) → (leOf a b ≡ gives true) ↔ ((compareOf a b ≡ gives Less) ⊎ (compareOf a b ≡ gives Equal))
+  pub ge-exactly : (a b : Value) → (geOf a b ≡ gives true) ↔ ((compareOf a b ≡ gives Greater) ⊎ (compareOf a b ≡ gives Equal))
+  -- ne is no where eq is yes, and yes where eq is no
+  pub ne-turns : (a b : Value) → neOf a b ≡ mapped not (eqOf a b)
+  -- on Unordered every one is no, except ne
+  pub unordered : (a b : Value) → compareOf a b ≡ gives Unordered → Every (λ test. test ≡ gives false) (orderTests a b) × (neOf a b ≡ gives true)
+  -- a test is refused exactly as the comparison is
+  pub refused : (a b : Value) (n p : ℕ) → Every (λ test. (test ≡ refuses n p) ↔ (compareOf a b ≡ refuses n p)) (neOf a b ∷ orderTests a b)
 
 -- values of one kind
 pub record Values : Type 0 where
@@ -60,3 +102,8 @@ pub record Values : Type 0 where
   pub partial-order : PartialOrder compareOf eqOf
   pub integer-order : LinearOrder compareOf OneIntegerKind (λ a b. a ≡ b)
   pub total-order : LinearOrder totalOf OneKind (λ a b. bitsOf a ≡ bitsOf b)
+  -- the total order keeps the comparison's direction
+  pub total-less : (a b : Value) → compareOf a b ≡ gives Less → totalOf a b ≡ gives Less
+  pub total-greater : (a b : Value) → compareOf a b ≡ gives Greater → totalOf a b ≡ gives Greater
+  -- and the six tests go by the comparison
+  pub tests : Tests

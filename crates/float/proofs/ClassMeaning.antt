@@ -54,26 +54,26 @@ normal-range p e x h l g =
     let high = mag-grows p x (infOf p e - 1) (omega arith) in
     (subst (λ (n : ℕ). n ≤ magOf p x) (mag-normal p) low, subst (λ (n : ℕ). magOf p x ≤ n) (mag-largest p e h) high)
 
-pos-of-ne : {x : ℕ} → (x ≡ 0 → ⊥) → 0 < x
-pos-of-ne h = omega (arith, h)
-
-below-of-ne : {x y : ℕ} → x ≤ y → (x ≡ y → ⊥) → x < y
-below-of-ne l h = omega (arith, h)
-
-module _ (p e b : ℕ) (h : 2 ≤ e) where
-  by-tests : (n i z s : Bool) → ltb (infOf p e) (absOf p e b) ≡ n → eqb (absOf p e b) (infOf p e) ≡ i → eqb (absOf p e b) 0 ≡ z → ltb (absOf p e b) (2 ^ p) ≡ s
-      → ClassMeans p e b (cond n Nan (cond i Infinite (cond z Zero (cond s Subnormal Normal))))
-  by-tests true i z s a c d f = pattern-nan p e b (ltb-true _ _ a)
-  by-tests false true z s a c d f = pattern-infinite p e b (eqb-true _ _ c)
-  by-tests false false true s a c d f = scaled-zero p e b (eqb-true _ _ d)
-  by-tests false false false true a c d f =
-      let l : absOf p e b < 2 ^ p = ltb-true _ _ f in
-      (mag-small p _ l, pos-of-ne (eqb-false _ 0 d), l)
-  by-tests false false false false a c d f = normal-range p e _ h (below-of-ne (ltb-false _ _ a) (eqb-false _ (infOf p e) c)) (ltb-false _ _ f)
-
-  pub class-means : ClassMeans p e b (classOf p e b)
+module _ (p e b : ℕ) where
+  -- what holds of each class by its bounds of abs holds of the class of the pattern
+  pub by-class : (P : Class → Type 0) → (infOf p e < absOf p e b → P Nan) → (absOf p e b ≡ infOf p e → P Infinite) → (absOf p e b ≡ 0 → P Zero)
+      → (0 < absOf p e b → absOf p e b < 2 ^ p → P Subnormal) → (2 ^ p ≤ absOf p e b → absOf p e b < infOf p e → P Normal) → P (classOf p e b)
   unfolding classOf
-  class-means = by-tests _ _ _ _ refl refl refl refl
+  by-class P nan infinite zero subnormal normal = go _ _ _ _ refl refl refl refl
+    where
+      go : (n i z s : Bool) → ltb (infOf p e) (absOf p e b) ≡ n → eqb (absOf p e b) (infOf p e) ≡ i → eqb (absOf p e b) 0 ≡ z
+          → ltb (absOf p e b) (2 ^ p) ≡ s → P (cond n Nan (cond i Infinite (cond z Zero (cond s Subnormal Normal))))
+      go true i z s a c d f = nan (ltb-true _ _ a)
+      go false true z s a c d f = infinite (eqb-true _ _ c)
+      go false false true s a c d f = zero (eqb-true _ _ d)
+      go false false false true a c d f = subnormal (omega (arith, eqb-false (absOf p e b) 0 d)) (ltb-true _ _ f)
+      go false false false false a c d f =
+          normal (ltb-false _ _ f) (omega (arith, ltb-false (infOf p e) (absOf p e b) a, eqb-false (absOf p e b) (infOf p e) c))
+
+  pub class-means : 2 ≤ e → ClassMeans p e b (classOf p e b)
+  class-means h =
+      by-class (ClassMeans p e b) (pattern-nan p e b) (pattern-infinite p e b) (scaled-zero p e b)
+      (λ l g. (mag-small p _ g, l, g)) (λ g l. normal-range p e _ h l g)
 
 -- the comparison of two finite patterns is that of their scaled numbers
 pub number-scaled : (p e b : ℕ) → finiteOf p e b ≡ true → numberOf (patternOf p e b) ≡ number (scaledOf p e b)

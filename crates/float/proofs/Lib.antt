@@ -8,6 +8,7 @@ pub mod SameNumber
 pub mod Language
 pub mod Operators
 pub mod ClassMeaning
+pub mod ClassBounds
 pub mod Turned
 pub mod Transitive
 pub mod Agreement

@@ -91,6 +91,12 @@ mag-grows p x y h = elim (eq-or-lt-of-le h) [
   | inr l ↦ le-of-lt (mag-rises p x y l)
 ]
 
+pub mag-reflects : (p x y : ℕ) → magOf p x ≤ magOf p y → x ≤ y
+mag-reflects p x y h = elim (lt-or-ge y x) [
+  | inl l ↦ absurd (omega (arith, mag-rises p y x l))
+  | inr g ↦ g
+]
+
 -- below 2 ^ p the exponent field is 0
 pub mag-small : (p x : ℕ) → x < 2 ^ p → magOf p x ≡ x
 unfolding magOf

@@ -1,3 +1,4 @@
+pub mod Tests
 pub mod Comparison
 pub mod TotalOrder
 pub mod Integers

@@ -12,7 +12,7 @@ use Rattle.record.specs.Record.{fieldFor, fieldsOf, recordOf}
 use Rattle.lexical.specs.Lexical.{lexicalOf, compareOf}
 use Rattle.lexical.proofs.Given.{compared-records, records-compared}
 use Rattle.laws_cmp.specs.Laws.{PartialOrder, LinearOrder, Ordered, OneIntegerShape, SameFields, recordsEq}
-use Rattle.laws_cmp.proofs.Comparison.{equal-tested, tested-equal}
+use Rattle.laws_cmp.proofs.Tests.{eq-exactly}
 use Rattle.laws_cmp.proofs.Fields.{turned-fields, fields-less-trans, fields-equal-trans, fields-ordered, fields-equal, equal-fields}
 
 pub turned-records : (a b : Record) (o : Order) → compareOf a b ≡ gives o → compareOf b a ≡ gives (turned o)
@@ -34,14 +34,14 @@ equal-transitive a b c h k =
 
 pub records-partial-order : PartialOrder compareOf recordsEq
 records-partial-order = record {
-  equal-eq = λ a b h. equal-tested (compareOf a b) h;
-  eq-equal = λ a b h. tested-equal (compareOf a b) h;
+  equal-eq = λ a b h. eq-exactly (compareOf a b) .1 h;
+  eq-equal = λ a b h. eq-exactly (compareOf a b) .0 h;
   less-greater = λ a b h. turned-records a b Less h;
   greater-less = λ a b h. turned-records b a Greater h;
   less-trans = less-transitive;
   greater-trans = λ a b c h k. turned-records c a Less (less-transitive c b a (turned-records b c Greater k) (turned-records a b Greater h));
-  eq-symmetric = λ a b h. equal-tested (compareOf b a) (turned-records a b Equal (tested-equal (compareOf a b) h));
-  eq-transitive = λ a b c h k. equal-tested (compareOf a c) (equal-transitive a b c (tested-equal (compareOf a b) h) (tested-equal (compareOf b c) k));
+  eq-symmetric = λ a b h. eq-exactly (compareOf b a) .1 (turned-records a b Equal (eq-exactly (compareOf a b) .0 h));
+  eq-transitive = λ a b c h k. eq-exactly (compareOf a c) .1 (equal-transitive a b c (eq-exactly (compareOf a b) .0 h) (eq-exactly (compareOf b c) .0 k));
 }
 
 -- ---- integers
