@@ -1,6 +1,7 @@
 pub mod Demand1
 pub mod Boundary
 pub mod Floats
+pub mod Widening
 pub mod Conversion
 pub mod Choosing
 pub mod Demand2
