@@ -133,7 +133,7 @@ none-is notNumber h = absurd (h refl)
 none-is (infinite s) h = refl
 none-is (finite s m) h = refl
 
-is-none : (x : Exact) → isNone x ≡ false → float-number.numberOf x ≡ none → ⊥
+pub is-none : (x : Exact) → isNone x ≡ false → float-number.numberOf x ≡ none → ⊥
 is-none notNumber t h = clash cc
 is-none (infinite true) t h = clash cc
 is-none (infinite false) t h = clash cc

@@ -20,14 +20,16 @@ use Rattle.value.specs.declared.Kind.{Kind}
 use Rattle.value.specs.declared.Kind.the-variants as kind
 use Rattle.value.specs.declared.Value.{Value}
 use Rattle.value.specs.Kinds.{Form, unsigned, signed, floating, formOf, kindOf, kindNumber, isInteger}
-use Rattle.value.specs.Meaning.{wholeOf, unit, stepOf, exactOf, numberOf, bitsOf, twosOf, fromTwos, f32Value, f64Value, valueOf}
+use Rattle.value.specs.Meaning.{contentOf, InRange, wholeOf, unit, stepOf, exactOf, numberOf, bitsOf, twosOf, fromTwos, f32Value, f64Value, valueOf}
 use Rattle.value.specs.Outcome.{gives}
 use Rattle.value.proofs.Units.{unit-pos}
-use Rattle.value.proofs.MadeValues.{bits-made, value-kind}
+use Rattle.value.proofs.MadeValues.{bits-made}
+use Rattle.value.proofs.Ranges.{value-again}
 use Rattle.convert.specs.Convert.{withSign, magnitudeFor, integerFor, patternFor, madeIn, convertOf}
 use Rattle.convert.proofs.Accepted.{exactFor}
 use Rattle.convert.proofs.Encode.{encode-held}
 use Rattle.convert.proofs.Exactly.{none-is, into-accepts, made-exact, other-kind, sound, complete, kept}
+use Rattle.convert.proofs.OwnBits.{exact-again}
 
 -- ---- a number with a sign of its zero is one sign and one magnitude
 
@@ -133,19 +135,17 @@ module _ (v : Value) (to : Kind) (other : kindNumber (kindOf v) ≡ kindNumber t
     | inr f ↦ kept v to other (f .0) (f .1) w h
   ]
 
--- there and back: the same bits
-pub returns-same : (from to : Kind) (b : ℕ) → (kindNumber from ≡ kindNumber to → ⊥)
-    → (isInteger (formOf to) ≡ true → exactOf (valueOf from b) ≡ finite true 0 → ⊥)
-    → (w : Value) → convertOf (valueOf from b) to ≡ gives w → (u : Value) × (convertOf w from ≡ gives u) × (bitsOf u ≡ bitsOf (valueOf from b))
-returns-same from to b d signless w h =
-    let v = valueOf from b in
-    let other : kindNumber (kindOf v) ≡ kindNumber to → ⊥ = λ q. d (ap kindNumber (sym (value-kind from b)) ∙ q) in
-    let s = sound v to other w h in
-    let back : kindNumber (kindOf w) ≡ kindNumber from → ⊥ = λ q. d (sym q ∙ ap kindNumber (s .1)) in
-    let some : numberOf w ≡ none → ⊥ = λ q. s .0 (sym (s .3) ∙ q) in
-    let e : exactOf w ≡ exactOf v = arrives v to other signless w h in (
-      madeIn from (exactOf w),
-      complete w from back b some (sym (s .3)),
-      ap (λ (x : Exact). bitsOf (madeIn from x)) e
-          ∙ made-again from b (none-is (exactOf v) (s .0)),
-    )
+  -- there and back: the same bits
+  pub returns-same : InRange (contentOf v) → (isInteger (formOf to) ≡ true → exactOf v ≡ finite true 0 → ⊥)
+      → (w : Value) → convertOf v to ≡ gives w → (u : Value) × (convertOf w (kindOf v) ≡ gives u) × (bitsOf u ≡ bitsOf v)
+  returns-same r signless w h =
+      let s = sound v to other w h in
+      let back : kindNumber (kindOf w) ≡ kindNumber (kindOf v) → ⊥ = λ q. other (sym q ∙ ap kindNumber (s .1)) in
+      let some : numberOf w ≡ none → ⊥ = λ q. s .0 (sym (s .3) ∙ q) in
+      let again : exactOf (valueOf (kindOf v) (bitsOf v)) ≡ exactOf v = exact-again v r in (
+        madeIn (kindOf v) (exactOf w),
+        complete w (kindOf v) back (bitsOf v) some (ap float-number.numberOf again ∙ sym (s .3)),
+        ap (λ (x : Exact). bitsOf (madeIn (kindOf v) x)) (arrives signless w h ∙ sym again)
+            ∙ made-again (kindOf v) (bitsOf v) (ap isNone again ∙ none-is (exactOf v) (s .0))
+            ∙ value-again v r,
+      )

@@ -2,6 +2,7 @@ pub mod Demand1
 pub mod Lengths
 pub mod Boundary
 pub mod Floats
+pub mod Widening
 pub mod Conversion
 pub mod Refusing
 pub mod Clamping
