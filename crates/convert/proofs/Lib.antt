@@ -5,7 +5,6 @@ pub mod Accepted
 pub mod Exactly
 pub mod Infinities
 pub mod Widening
-pub mod OwnBits
 pub mod Returning
 pub mod Taken
 pub mod Wholes

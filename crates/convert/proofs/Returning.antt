@@ -24,12 +24,11 @@ use Rattle.value.specs.Meaning.{contentOf, InRange, wholeOf, unit, stepOf, exac
 use Rattle.value.specs.Outcome.{gives}
 use Rattle.value.proofs.Units.{unit-pos}
 use Rattle.value.proofs.MadeValues.{bits-made}
-use Rattle.value.proofs.Ranges.{value-again}
+use Rattle.value.proofs.OwnBits.{value-again, exact-again}
 use Rattle.convert.specs.Convert.{withSign, magnitudeFor, integerFor, patternFor, madeIn, convertOf}
 use Rattle.convert.proofs.Accepted.{exactFor}
 use Rattle.convert.proofs.Encode.{encode-held}
 use Rattle.convert.proofs.Exactly.{none-is, into-accepts, made-exact, other-kind, sound, complete, kept}
-use Rattle.convert.proofs.OwnBits.{exact-again}
 
 -- ---- a number with a sign of its zero is one sign and one magnitude
 

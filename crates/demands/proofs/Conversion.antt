@@ -11,12 +11,11 @@ use Rattle.value.specs.Kinds.{kindOf, kindNumber}
 use Rattle.value.specs.Meaning.{stepOf}
 use Rattle.value.proofs.KindNumbers.{number-injective}
 use Rattle.value.proofs.MadeValues.{bits-made, value-kind}
-use Rattle.value.proofs.Ranges.{value-again}
+use Rattle.value.proofs.OwnBits.{bits-small, value-again, exact-again}
 use Rattle.convert.specs.Convert.{encodeOf, heldIn}
 use Rattle.convert.proofs.Encode.{held-of, held-has}
 use Rattle.convert.proofs.Exactly.{same-kind, sound, exactly, kept}
 use Rattle.convert.proofs.Infinities.{refused-none, nan-never, infinity-refused, infinity-passes}
-use Rattle.convert.proofs.OwnBits.{bits-small, exact-again}
 use Rattle.convert.proofs.Returning.{returns-same}
 use Rattle.convert.proofs.Widening.{widened}
 use Rattle.demands.specs.Conversion.{Other, Conversion}

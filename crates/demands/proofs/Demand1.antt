@@ -25,6 +25,7 @@ use Rattle.rowclamp.specs.Clamp.{clampAnswer, clampExit}
 use Rattle.record.specs.Record.{setOf, getOf, pushOf, shapeOf}
 use Rattle.lexical.specs.Lexical as lexical
 use Rattle.key.specs.Key.{writeOf, writeExit, readOf}
+use Rattle.demands.proofs.Lengths.{of-lengths}
 use Rattle.demands.specs.Demand1.{rowRules, rowClampRules, ByItsRules, InOrder, Unchanged, Demand1}
 
 -- ---- rows: the samples' chains one behind the other, each with its index
@@ -154,4 +155,4 @@ unchanged = record {
 }
 
 pub demand-1 : Demand1
-demand-1 = record { in-order = in-order; by-its-rules = by-its-rules; unchanged = unchanged }
+demand-1 = record { in-order = in-order; by-its-rules = by-its-rules; unchanged = unchanged; lengths = of-lengths }

@@ -3,6 +3,16 @@ use Rattle.demands.specs.Demand2.{Demand2}
 use Rattle.demands.proofs.Floats.{of-format, of-values}
 use Rattle.demands.proofs.Conversion.{of-conversion}
 use Rattle.demands.proofs.Choosing.{of-records, of-choosing}
+use Rattle.demands.proofs.Rows.{of-rows}
+use Rattle.demands.proofs.LentRows.{of-lent-rows}
 
 pub demand-2 : Demand2
-demand-2 = record { floats = of-format; values = of-values; conversion = of-conversion; records = of-records; choosing = of-choosing }
+demand-2 = record {
+  floats = of-format;
+  values = of-values;
+  conversion = of-conversion;
+  records = of-records;
+  choosing = of-choosing;
+  rows = of-rows;
+  lent-rows = of-lent-rows;
+}

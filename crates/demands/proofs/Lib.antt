@@ -1,5 +1,5 @@
-pub mod Demand1
 pub mod Lengths
+pub mod Demand1
 pub mod Boundary
 pub mod Floats
 pub mod Widening

@@ -27,6 +27,7 @@ use Rattle.record.specs.Record.{fieldsOf, kindsIn, placeRules, setOf, getOf, pu
 use Rattle.lexical.specs.Lexical.{recordRules}
 use Rattle.lexical.specs.Lexical as lexical
 use Rattle.key.specs.Key.{nanRules, writeRules, writeOf, writeExit, keyNumbers, canonicalRules, readRules, readOf}
+use Rattle.demands.specs.Lengths.{Lengths}
 
 -- ---- rows: their own rule, then those of each sample, the lowest index deciding
 
@@ -100,8 +101,9 @@ pub record InOrder : Type 1 where
   pub each-nan : (at : ℕ) (f : Field) (fs : List Field) → numbersOf (nanRules at (f ∷ fs)) ≡ 1 ∷ numbersOf (nanRules (suc at) fs)
   pub each-canonical : (at : ℕ) (f : Kind × ℕ) (fs : List (Kind × ℕ)) → numbersOf (canonicalRules at (f ∷ fs)) ≡ 12 ∷ numbersOf (canonicalRules (suc at) fs)
 
--- the demand: the orders, the refusals, and lent memory
+-- the demand: the orders, the refusals, lent memory, and what the rules on counts and lengths say
 pub record Demand1 : Type 1 where
   pub in-order : InOrder
   pub by-its-rules : ByItsRules
   pub unchanged : Unchanged
+  pub lengths : Lengths

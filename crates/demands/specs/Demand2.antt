@@ -4,11 +4,15 @@ use Rattle.float.specs.Format.{fractionOf, exponentOf}
 use Rattle.demands.specs.Floats.{Floats, Values}
 use Rattle.demands.specs.Conversion.{Conversion}
 use Rattle.demands.specs.Choosing.{Records, Choosing}
+use Rattle.demands.specs.Rows.{Rows}
+use Rattle.demands.specs.LentRows.{LentRows}
 
 -- the demand, sentence by sentence
-pub record Demand2 : Type 0 where
+pub record Demand2 : Type 1 where
   pub floats : (f : Format) → Floats (fractionOf f) (exponentOf f)
   pub values : Values
   pub conversion : Conversion
   pub records : Records
   pub choosing : Choosing
+  pub rows : Rows
+  pub lent-rows : LentRows

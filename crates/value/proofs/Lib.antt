@@ -8,3 +8,4 @@ pub mod Rules
 pub mod Forms
 pub mod Units
 pub mod Ranges
+pub mod OwnBits

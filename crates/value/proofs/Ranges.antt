@@ -21,9 +21,9 @@ use Rattle.value.specs.declared.Value.{Value}
 use Rattle.value.specs.declared.Value.the-variants.{U8, U16, U32, U64, I8, I16, I32, I64, F32, F64}
 use Rattle.value.specs.Kinds.{Form, unsigned, signed, floating, formOf, widthIn, kindOf}
 use Rattle.value.specs.Meaning.{Content, natural, integer, real, contentOf, fitsSigned, floatBits, bitsIn, bitsOf, InRange, fromTwos, wordFor, valueOf}
-use Rattle.value.proofs.Widths.{Sized, kind-sized}
+use Rattle.value.proofs.Widths.{Sized}
 use Rattle.value.proofs.TwosComplement.{below-fits, from-fits}
-use Rattle.value.proofs.MadeValues.{low-bits, value-bits}
+use Rattle.value.proofs.MadeValues.{low-bits}
 use Rattle.value.proofs.Value.{the-type}
 use Rattle.value.proofs.Value.Laws.{the-laws}
 
@@ -115,11 +115,3 @@ made-in-range kind.I32 b = signed-small (2 ^ 31) (b % 2 ^ 32) (low-bits b 32)
 made-in-range kind.I64 b = signed-small (2 ^ 63) (b % 2 ^ 64) (low-bits b 64)
 made-in-range kind.F32 b = (ofBits-fits binary32 (b % 2 ^ 32), word-small binary32 (b % 2 ^ 32) (low-bits b 32))
 made-in-range kind.F64 b = (ofBits-fits binary64 (b % 2 ^ 64), word-small binary64 (b % 2 ^ 64) (low-bits b 64))
-
--- ---- a value is told by its kind and its bits
-
--- the value of its own bits has these bits
-pub value-again : (v : Value) → InRange (contentOf v) → bitsOf (valueOf (kindOf v) (bitsOf v)) ≡ bitsOf v
-value-again v r =
-    let small : bitsOf v < 2 ^ widthIn (formIn (contentOf v)) = bits-range (contentOf v) (subst Sized (sym (content-form v)) (kind-sized (kindOf v))) r in
-    value-bits (kindOf v) (bitsOf v) (subst (λ (form : Form). bitsOf v < 2 ^ widthIn form) (content-form v) small)

@@ -1,5 +1,5 @@
--- A value in range is told by its kind and its bits: what it stands for is read off its form and its bits,
--- and so the value made of them stands for the same.
+-- A value in range is told by its kind and its bits: what it stands for is read off its form and its bits, and so the value made of them has the
+-- same bits and stands for the same.
 use mathlib.Core.Path.{_≡_, refl, sym, _∙_, ap, subst}
 use Prim.Native.Nat.{ℕ, _-_, _^_, _≤_, _<_}
 use native.Mathlib.Omega.{arith}
@@ -7,15 +7,15 @@ use lib.IntN.{ℤ, pos}
 use Rattle.float.specs.Format.{fractionOf, exponentOf}
 use Rattle.float.specs.Number.{Exact, times}
 use Rattle.float.specs.Order.{patternOf}
 use Rattle.value.specs.declared.Kind.{Kind}
 use Rattle.value.specs.declared.Value.{Value}
 use Rattle.value.specs.Kinds.{kindOf, Form, unsigned, signed, floating, formOf, widthIn, widthOf}
 use Rattle.value.specs.Meaning.{Content, natural, integer, real, contentOf, fitsSigned, twosOf, bitsIn, bitsOf, InRange}
 use Rattle.value.specs.Meaning.{wholeOf, unit, stepOf, exactIn, exactOf, fromTwos, valueOf}
-use Rattle.value.proofs.MadeValues.{value-kind}
+use Rattle.value.proofs.MadeValues.{value-bits, value-kind}
 use Rattle.value.proofs.TwosComplement.{fits-below, from-twos}
 use Rattle.value.proofs.Widths.{Sized, kind-sized}
-use Rattle.value.proofs.Ranges.{formIn, content-form, twice-half, bits-range, made-in-range, value-again}
+use Rattle.value.proofs.Ranges.{formIn, content-form, twice-half, bits-range, made-in-range}
 
 abbrev standsFor : Form → ℕ → Exact
 standsFor (unsigned k) b = times unit (wholeOf (pos b))
@@ -40,6 +40,9 @@ module _ (v : Value) (r : InRange (contentOf v)) where
 
   told : standsFor (formOf (kindOf v)) (bitsOf v) ≡ exactOf v
   told = subst (λ (form : Form). standsFor form (bitsOf v) ≡ exactOf v) (content-form v) (content-told (contentOf v) own-sized r)
+
+pub value-again : (v : Value) → InRange (contentOf v) → bitsOf (valueOf (kindOf v) (bitsOf v)) ≡ bitsOf v
+value-again v r = value-bits (kindOf v) (bitsOf v) (bits-small v r)
 
 pub exact-again : (v : Value) → InRange (contentOf v) → exactOf (valueOf (kindOf v) (bitsOf v)) ≡ exactOf v
 exact-again v r =
