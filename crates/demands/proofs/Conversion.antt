@@ -8,7 +8,7 @@ use Rattle.convert.proofs.Exactly.{same-kind, sound, exactly, kept}
 use Rattle.convert.proofs.Infinities.{nan-never, infinity-refused, infinity-passes}
 use Rattle.demands.specs.Conversion.{Other, Conversion}
 
-other : (v : Value) (to : Kind) → Other v to → kindNumber (kindOf v) ≡ kindNumber to → ⊥
+pub other : (v : Value) (to : Kind) → Other v to → kindNumber (kindOf v) ≡ kindNumber to → ⊥
 other v to h q = h (number-injective (kindOf v) to q)
 
 pub of-conversion : Conversion

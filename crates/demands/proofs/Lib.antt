@@ -2,6 +2,8 @@ pub mod Demand1
 pub mod Boundary
 pub mod Floats
 pub mod Conversion
+pub mod Beyond
+pub mod WhichRefusal
 pub mod Choosing
 pub mod Demand2
 pub mod Demand3

@@ -11,6 +11,8 @@ pub mod Demand2
 pub mod Floats
 -- conversion
 pub mod Conversion
+-- which refusal a conversion gives, by the numbers
+pub mod WhichRefusal
 -- records compared, samples chosen and clamped
 pub mod Choosing
 -- keys and the order of their bytes
