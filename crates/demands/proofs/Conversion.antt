@@ -21,7 +21,7 @@ use Rattle.convert.proofs.Widening.{widened}
 use Rattle.demands.specs.Conversion.{Other, Conversion}
 use Rattle.demands.proofs.Widening.{widens-means}
 
-other : (v : Value) (to : Kind) → Other v to → kindNumber (kindOf v) ≡ kindNumber to → ⊥
+pub other : (v : Value) (to : Kind) → Other v to → kindNumber (kindOf v) ≡ kindNumber to → ⊥
 other v to h q = h (number-injective (kindOf v) to q)
 
 held-means : (f : Format) (m : ℕ) → (heldIn f m ≡ true) ↔ ((a : ℕ) × (magOf (fractionOf f) a * stepOf f ≡ m))

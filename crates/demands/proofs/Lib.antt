@@ -4,6 +4,8 @@ pub mod Boundary
 pub mod Floats
 pub mod Widening
 pub mod Conversion
+pub mod Beyond
+pub mod WhichRefusal
 pub mod Refusing
 pub mod Clamping
 pub mod Choosing

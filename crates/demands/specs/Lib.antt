@@ -13,6 +13,8 @@ pub mod Demand2
 pub mod Floats
 -- conversion
 pub mod Conversion
+-- which refusal a conversion gives, by the numbers
+pub mod WhichRefusal
 -- records compared, samples chosen and clamped
 pub mod Choosing
 -- rows of samples, accepted and refused
