@@ -1,4 +1,5 @@
 pub mod Demand1
+pub mod Numbers
 pub mod Boundary
 pub mod Floats
 pub mod Conversion
