@@ -152,19 +152,20 @@ silamogo_answer silamogo_row_u16_to_f32(const uint16_t *src, size_t src_length, 
 silamogo_answer silamogo_row_f32_to_u16(const float *src, size_t src_length, uint16_t *dst, size_t dst_length);
 
 /* ---- records. A record is a row of kinds, its shape, and a row of bits of the same length: field i is the sample {kinds[i], bits[i]}. Of
- * every record: 7 for a number that names no kind, 9 for rows of two lengths, 4 at the first field with bits that its kind doesn't have. */
+ * every record: 11 for a count of kinds that is 0 or above 12, 7 for a number that names no kind, 9 for rows of two lengths, 4 at the first
+ * field with bits that its kind doesn't have; of two records each of these in both before the next. */
 
-/* Field by field; the first that isn't equal decides (RULES: Records). Then 11 for a count, 7 for shapes that differ. */
+/* Field by field; the first that isn't equal decides (RULES: Records). Then 7 for shapes that differ. */
 silamogo_ordered silamogo_record_compare(const uint8_t *a_kinds, size_t a_kinds_length, const uint64_t *a_bits, size_t a_bits_length,
                                          const uint8_t *b_kinds, size_t b_kinds_length, const uint64_t *b_bits, size_t b_bits_length);
 
 /* Writes the key of a record at the start of the buffer and gives its length; bytes behind it stay (RULES: Keys). Keys of one shape order
- * by memcmp as their records do. Then 11 for the count, 10 for the buffer, 1 at the first NaN. */
+ * by memcmp as their records do. Then 10 for the buffer, 1 at the first NaN. */
 silamogo_measured silamogo_key_write(const uint8_t *kinds, size_t kinds_length, const uint64_t *bits, size_t bits_length,
                                      uint8_t *buffer, size_t buffer_length);
 
-/* Writes the bits of each field of a key (RULES: Keys). Refusals: 7 for a number that names no kind, 9 for kinds and bits of two lengths,
- * 11 for the count, 9 for a key of wrong length, 12 at the first field that no key has. */
+/* Writes the bits of each field of a key (RULES: Keys). Refusals: 11 for the count of kinds, 7 for a number that names no kind, 9 for kinds
+ * and bits of two lengths, 9 for a key of wrong length, 12 at the first field that no key has. */
 silamogo_answer silamogo_key_read(const uint8_t *kinds, size_t kinds_length, const uint8_t *key, size_t key_length,
                                   uint64_t *bits, size_t bits_length);
 

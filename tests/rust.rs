@@ -50,20 +50,21 @@ fn made(random: &mut Random) {
     expect(one_by_one(&shape, &bits), &shape, &bits, room, count);
 }
 
-/// In the order 9, 11, 10, then the first record's 4 and 1: each before all that come after it.
+/// In the order 11, 9, 10, then the first record's 4 and 1: each before all that come after it.
 fn refused() -> usize {
     let refused = |number, place| Err(Refusal { number, place });
     let (floats, bytes, wide) = ([Kind::F32; 2], [Kind::U8; 13], 1 << 32);
-    let cases: [(_, &[Kind], &[u64], _, _); 15] = [
-        (refused(9, 0), &bytes, &[256], 0, 2),
-        (refused(9, 0), &[], &[256], 0, 1),
-        (refused(9, 0), &floats, &[NAN, wide, 0], 0, 1),
-        (refused(9, 0), &floats, &[NAN, wide], 0, 2),
-        (refused(9, 0), &bytes, &[], 0, 15),
+    let cases: [(_, &[Kind], &[u64], _, _); 16] = [
         (refused(11, 0), &[], &[], 0, 0),
         (refused(11, 0), &[], &[], 0, 3),
+        (refused(11, 0), &[], &[256], 0, 1),
         (refused(11, 0), &bytes, &[], 0, 0),
+        (refused(11, 0), &bytes, &[], 0, 15),
+        (refused(11, 0), &bytes, &[256], 0, 2),
         (refused(11, 0), &bytes, &[256; 13], 0, 1),
+        (refused(9, 0), &bytes[..12], &[256], 0, 2),
+        (refused(9, 0), &floats, &[NAN, wide, 0], 0, 1),
+        (refused(9, 0), &floats, &[NAN, wide], 0, 2),
         (refused(10, 0), &floats, &[NAN, wide], 7, 1),
         (refused(4, 1), &floats, &[NAN, wide], 8, 1),
         (refused(1, 0), &floats, &[NAN, 0, 0, wide], 16, 2),

@@ -209,12 +209,13 @@ def _record(record):
 
 
 def record_compare(a, b):
-    """The first field that isn't equal decides; 4 for bits that the kind doesn't have, 11 for a count, 7 for shapes that differ."""
+    """The first field that isn't equal decides; 11 for a count, 7 for a kind that names none, 4 for bits that the kind doesn't have, 7 for shapes
+    that differ."""
     return Order(ask("record_compare", *_record(a), *_record(b)).order)
 
 
 def key_write(record, buffer):
-    """The length of the key, written at the start of a buffer of bytes; 4 as above, 11 for the count, 10 for the buffer, 1 at a NaN."""
+    """The length of the key, written at the start of a buffer of bytes; 11, 7, 4 as above, 10 for the buffer, 1 at a NaN."""
     with Row(buffer, "B", writable=True) as lent:
         return ask("key_write", *_record(record), *lent.slice).length
 
@@ -226,7 +227,7 @@ def key(record):
 
 
 def key_read(shape, key):
-    """The record of a key; 11 for the count, 9 for the key's length, 12 at the first field that no key has."""
+    """The record of a key; 11 for the count, 7 for a kind that names none, 9 for the key's length, 12 at the first field that no key has."""
     kinds = words(shape, 8)
     bits = words([0] * len(kinds), 64)
     with Row(key, "B") as lent:
@@ -240,8 +241,8 @@ def key_read(shape, key):
 
 def keys_write(shape, bits, buffer, lengths):
     """The keys of as many records as there are 64-bit words in `lengths`, which get the lengths. Key i begins at i times the bytes of the
-    shape's longest key, with 00 behind it if it is shorter; bytes behind the last stay. 7 for a kind that names none, 9 for bits that aren't
-    so many records, 11 for the count, 10 for the buffer; then of the first record that has one 4 or 1, at the index of its bits."""
+    shape's longest key, with 00 behind it if it is shorter; bytes behind the last stay. 11 for the count of fields, 7 for a kind that names
+    none, 9 for bits that aren't so many records, 10 for the buffer; then of the first record that has one 4 or 1, at the index of its bits."""
     kinds = words(shape, 8)
     with Row(bits, "Q") as given, Row(buffer, "B", writable=True) as lent, Row(lengths, "Q", writable=True) as told:
         if given.overlaps(lent) or given.overlaps(told) or lent.overlaps(told):
@@ -267,11 +268,9 @@ def keys(shape, bits):
 
 
 def _longest_key(kinds, bits, count):
-    """In bytes, as the key of zeros has them; 7, 9 and 11 as in keys_write."""
-    if not {*kinds} <= {*Kind}:
-        raise Refusal(7, 0)
+    """In bytes, as the key of zeros has them; 11, 7 and 9 as in keys_write."""
+    longest = len(key(Sample(kind, 0) for kind in kinds))
     if len(bits) != count * len(kinds):
         raise Refusal(9, 0)
-    longest = len(key(Sample(kind, 0) for kind in kinds))
     bits.in_lines_of(len(kinds))
     return longest

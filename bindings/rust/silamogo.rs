@@ -155,28 +155,28 @@ pub fn row_f32_to_u16(src: &[f32], dst: &mut [u16]) -> Result<()> {
 }
 
 /// A record is its kinds and its bits, field by field. The first field that isn't Equal decides; nothing when a NaN does.
-/// 9 for kinds and bits of two lengths, 4 for bits that the kind doesn't have, 11 for a count, 7 for shapes that differ.
+/// 11 for a count, 9 for kinds and bits of two lengths, 4 for bits that the kind doesn't have, 7 for shapes that differ.
 pub fn record_compare(a_kinds: &[Kind], a_bits: &[u64], b_kinds: &[Kind], b_bits: &[u64]) -> Result<Option<Ordering>> {
     let [a, b] = [a_kinds, b_kinds].map(|kinds| kinds.as_ptr().cast::<u8>());
     let (x, y) = (a_bits.as_ptr(), b_bits.as_ptr());
     ordered(unsafe { c::silamogo_record_compare(a, a_kinds.len(), x, a_bits.len(), b, b_kinds.len(), y, b_bits.len()) })
 }
 
-/// The key's length; the key stands at the start of the buffer. 9, 4 as above; then 11 for the count, 10 for the buffer, 1 at the first NaN.
+/// The key's length; the key stands at the start of the buffer. 11, 9, 4 as above; then 10 for the buffer, 1 at the first NaN.
 pub fn key_write(kinds: &[Kind], bits: &[u64], buffer: &mut [u8]) -> Result<usize> {
     let kind_numbers = kinds.as_ptr().cast::<u8>();
     given(unsafe { c::silamogo_key_write(kind_numbers, kinds.len(), bits.as_ptr(), bits.len(), buffer.as_mut_ptr(), buffer.len()) })
 }
 
 /// The keys of as many records of one shape as there are `lengths`, which get the lengths; `bits` has the records one behind the other. Key i
-/// begins at i times the bytes of the shape's longest key, with 00 behind it if it is shorter; bytes behind the last stay. 9 for bits that
-/// aren't so many records, 11 for the count, 10 for the buffer; then of the first record that has one 4 or 1, at the index of its bits.
+/// begins at i times the bytes of the shape's longest key, with 00 behind it if it is shorter; bytes behind the last stay. 11 for the count
+/// of fields, 9 for bits that aren't so many records, 10 for the buffer; then of the first record that has one 4 or 1, at the index of its bits.
 pub fn keys_write(shape: &[Kind], bits: &[u64], buffer: &mut [u8], lengths: &mut [u64]) -> Result<()> {
     let (count, fields) = (lengths.len(), shape.len());
+    let longest = key_write(shape, &vec![0; fields], &mut [0; LONGEST_KEY])?; // the key of zeros is as long; 11
     if count.checked_mul(fields) != Some(bits.len()) {
         return Err(Refusal { number: 9, place: 0 });
     }
-    let longest = key_write(shape, &vec![0; fields], &mut [0; LONGEST_KEY])?; // the key of zeros is as long; 11
     if buffer.len() / longest < count {
         return Err(Refusal { number: 10, place: 0 });
     }
@@ -191,7 +191,7 @@ pub fn keys_write(shape: &[Kind], bits: &[u64], buffer: &mut [u8], lengths: &mut
     Ok(())
 }
 
-/// The bits of a key's fields. 9 for kinds and bits of two lengths, 11 for the count, 9 for the key's length, 12 at the first field that
+/// The bits of a key's fields. 11 for the count, 9 for kinds and bits of two lengths, 9 for the key's length, 12 at the first field that
 /// no key has.
 pub fn key_read(kinds: &[Kind], key: &[u8], bits: &mut [u64]) -> Result<()> {
     let kind_numbers = kinds.as_ptr().cast::<u8>();

@@ -77,7 +77,7 @@ by-row-clamp range row = by-same (rowClampRules range row) done (go (not (isLess
 
 -- ---- all calls
 
-by-its-rules : ByItsRules
+pub by-its-rules : ByItsRules
 unfolding compareOf totalOf minOf maxOf clampOf rangeOf sampleOf convertOf u8ToU16 u16ToU8 u16ToF32 f32ToU16 lexical.compareOf
     lexical.minOf lexical.maxOf setOf getOf pushOf shapeOf writeOf readOf
 by-its-rules = record {

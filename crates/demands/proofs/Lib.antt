@@ -1,5 +1,6 @@
 pub mod Lengths
 pub mod Demand1
+pub mod Numbers
 pub mod Boundary
 pub mod Floats
 pub mod Widening

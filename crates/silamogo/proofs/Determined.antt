@@ -1,28 +1,50 @@
--- The numbers that pass the boundary lose nothing: two outcomes with the same numbers are one outcome. No rule has the number 0.
--- Of a value they keep the kind and the bits, which is all that the rules speak of.
-use mathlib.Core.Path.{_≡_, refl, sym, _∙_, ap}
-use Prim.Native.Nat.{ℕ, _≤_}
+-- The numbers that pass the boundary lose nothing: an outcome is read back from its number, its place and what it gives, as no refusal has
+-- the number 0. Of a value they keep the kind and the bits, which is all that the rules speak of.
+use Prim.Native.Nat.{ℕ, zero, suc}
 use native.Mathlib.Omega.{arith}
+use mathlib.Core.Path.{_≡_, refl, sym, _∙_, ap}
+use mathlib.Core.List.{[], _∷_}
 use lib.IntN.{ℤ}
+use lib.ListN.{getD}
 use Rattle.float.specs.declared.Order.{Order}
 use Rattle.float.specs.declared.Order.the-variants.{Less, Equal, Greater, Unordered}
 use Rattle.float.specs.declared.Class.{Class}
 use Rattle.float.specs.declared.Class.the-variants.{Zero, Subnormal, Normal, Infinite, Nan}
-use Rattle.value.specs.Outcome.{Outcome, gives, refuses}
+use Rattle.value.specs.declared.Kind.{Kind}
+use Rattle.value.specs.declared.Value.{Value}
+use Rattle.value.specs.Kinds.{kindNumber, kindOf}
+use Rattle.value.specs.Outcome.{Outcome, gives, refuses, mapped, Success, done}
+use Rattle.silamogo.specs.declared.Answer.{Answer}
 use Rattle.silamogo.specs.declared.Ordered.{Ordered}
 use Rattle.silamogo.specs.declared.Classed.{Classed}
 use Rattle.silamogo.specs.declared.Positioned.{Positioned}
+use Rattle.silamogo.specs.declared.Sampled.{Sampled}
 use Rattle.silamogo.specs.declared.Measured.{Measured}
-use Rattle.silamogo.specs.Answer.{orderNumber, orderedOf, classNumber, classedOf, positionedOf, measuredOf}
-use lib.ListN.{getD}
-use mathlib.Core.List.{[], _∷_}
+use Rattle.silamogo.specs.Answer.{Numbered, answeredOf, orderNumber, orderedOf, classNumber, classedOf, positionedOf}
+use Rattle.silamogo.specs.Answer.{kindAndBits, sampledOf, measuredOf}
+use Rattle.silamogo.specs.Samples.{kindFor}
+use Rattle.value.proofs.KindNumbers.{kind-back}
 
--- a refusal has a number from 1 on
-abbrev pub Numbered : {A : Type 0} → Outcome A → Type 0
-Numbered (gives a) = Unit {0}
-Numbered (refuses number place) = 1 ≤ number
+-- ---- one law for every answer
 
--- orders and classes are read back from their numbers
+-- the outcome that a number, a place and a result stand for
+abbrev outcomeIn : {A : Type 0} → ℕ → ℕ → A → Outcome A
+outcomeIn zero place a = gives a
+outcomeIn (suc n) place a = refuses (suc n) place
+
+-- what is read back from the answer is what is kept of the outcome
+module _ {A B R : Type 0} (tell : Outcome A → R) (back : R → Outcome B) (kept : Outcome A → Outcome B)
+    (given : (a : A) → back (tell (gives a)) ≡ kept (gives a)) (refused : (n p : ℕ) → back (tell (refuses (suc n) p)) ≡ kept (refuses (suc n) p)) where
+  read-back : (x : Outcome A) → Numbered x → back (tell x) ≡ kept x
+  read-back (gives a) s = given a
+  read-back (refuses zero p) s = absurd (omega arith)
+  read-back (refuses (suc n) p) s = refused n p
+
+  told-apart : (x y : Outcome A) → Numbered x → Numbered y → tell x ≡ tell y → kept x ≡ kept y
+  told-apart x y s t h = sym (read-back x s) ∙ ap back h ∙ read-back y t
+
+-- ---- each answer
+
 order-back : (o : Order) → getD (Less ∷ Equal ∷ Greater ∷ Unordered ∷ []) (orderNumber o) Less ≡ o
 order-back Less = refl
 order-back Equal = refl
@@ -36,34 +58,32 @@ class-back Normal = refl
 class-back Infinite = refl
 class-back Nan = refl
 
-never : {A : Type 0} {n : ℕ} → n ≡ 0 → 1 ≤ n → A
-never q h = absurd (omega arith)
+kind-told : (k : Kind) → kindFor (kindNumber k) ≡ k
+unfolding kindFor
+kind-told k = rw (kind-back k)
 
-refused-same : {A : Type 0} {n p m q : ℕ} → n ≡ m → p ≡ q → _≡_ {A = Outcome A} (refuses n p) (refuses m q)
-refused-same e f = cc (e, f)
+success-back : (d : Success) → gives done ≡ gives d
+success-back done = refl
+
+pub answered-injective : (x y : Outcome Success) → Numbered x → Numbered y → answeredOf x ≡ answeredOf y → x ≡ y
+answered-injective = told-apart answeredOf (λ (r : Answer). outcomeIn (r .number) (r .place) done) (λ x. x) success-back (λ n p. refl)
 
 pub ordered-injective : (x y : Outcome Order) → Numbered x → Numbered y → orderedOf x ≡ orderedOf y → x ≡ y
-ordered-injective (gives a) (gives b) s t h =
-    ap gives (sym (order-back a) ∙ ap (λ (r : Ordered). getD (Less ∷ Equal ∷ Greater ∷ Unordered ∷ []) (r .order) Less) h ∙ order-back b)
-ordered-injective (gives a) (refuses n p) s t h = never (sym (ap (λ (r : Ordered). r .number) h)) t
-ordered-injective (refuses n p) (gives b) s t h = never (ap (λ (r : Ordered). r .number) h) s
-ordered-injective (refuses n p) (refuses m q) s t h = refused-same (ap (λ (r : Ordered). r .number) h) (ap (λ (r : Ordered). r .place) h)
+ordered-injective = told-apart orderedOf
+    (λ (r : Ordered). outcomeIn (r .number) (r .place) (getD (Less ∷ Equal ∷ Greater ∷ Unordered ∷ []) (r .order) Less)) (λ x. x)
+    (λ o. ap gives (order-back o)) (λ n p. refl)
 
 pub classed-injective : (x y : Outcome Class) → Numbered x → Numbered y → classedOf x ≡ classedOf y → x ≡ y
-classed-injective (gives a) (gives b) s t h =
-    ap gives (sym (class-back a) ∙ ap (λ (r : Classed). getD (Zero ∷ Subnormal ∷ Normal ∷ Infinite ∷ Nan ∷ []) (r .class) Zero) h ∙ class-back b)
-classed-injective (gives a) (refuses n p) s t h = never (sym (ap (λ (r : Classed). r .number) h)) t
-classed-injective (refuses n p) (gives b) s t h = never (ap (λ (r : Classed). r .number) h) s
-classed-injective (refuses n p) (refuses m q) s t h = refused-same (ap (λ (r : Classed). r .number) h) (ap (λ (r : Classed). r .place) h)
+classed-injective = told-apart classedOf
+    (λ (r : Classed). outcomeIn (r .number) (r .place) (getD (Zero ∷ Subnormal ∷ Normal ∷ Infinite ∷ Nan ∷ []) (r .class) Zero)) (λ x. x)
+    (λ c. ap gives (class-back c)) (λ n p. refl)
 
 pub positioned-injective : (x y : Outcome ℤ) → Numbered x → Numbered y → positionedOf x ≡ positionedOf y → x ≡ y
-positioned-injective (gives a) (gives b) s t h = ap gives (ap (λ (r : Positioned). r .position) h)
-positioned-injective (gives a) (refuses n p) s t h = never (sym (ap (λ (r : Positioned). r .number) h)) t
-positioned-injective (refuses n p) (gives b) s t h = never (ap (λ (r : Positioned). r .number) h) s
-positioned-injective (refuses n p) (refuses m q) s t h = refused-same (ap (λ (r : Positioned). r .number) h) (ap (λ (r : Positioned). r .place) h)
+positioned-injective = told-apart positionedOf (λ (r : Positioned). outcomeIn (r .number) (r .place) (r .position)) (λ x. x) (λ z. refl) (λ n p. refl)
+
+pub sampled-injective : (x y : Outcome Value) → Numbered x → Numbered y → sampledOf x ≡ sampledOf y → mapped kindAndBits x ≡ mapped kindAndBits y
+sampled-injective = told-apart sampledOf (λ (r : Sampled). outcomeIn (r .number) (r .place) (kindFor (r .kind), r .bits)) (mapped kindAndBits)
+    (λ v. rw (kind-told (kindOf v))) (λ n p. refl)
 
 pub measured-injective : (x y : Outcome ℕ) → Numbered x → Numbered y → measuredOf x ≡ measuredOf y → x ≡ y
-measured-injective (gives a) (gives b) s t h = ap gives (ap (λ (r : Measured). r .length) h)
-measured-injective (gives a) (refuses n p) s t h = never (sym (ap (λ (r : Measured). r .number) h)) t
-measured-injective (refuses n p) (gives b) s t h = never (ap (λ (r : Measured). r .number) h) s
-measured-injective (refuses n p) (refuses m q) s t h = refused-same (ap (λ (r : Measured). r .number) h) (ap (λ (r : Measured). r .place) h)
+measured-injective = told-apart measuredOf (λ (r : Measured). outcomeIn (r .number) (r .place) (r .length)) (λ x. x) (λ n. refl) (λ n p. refl)

@@ -13,7 +13,7 @@ use Rattle.record.specs.declared.Record.{Record}
 use Rattle.record.specs.declared.Recorded.{Recorded}
 use Rattle.record.specs.declared.Shape.{Shape}
 use Rattle.record.specs.declared.Made.the-variants as made
-use Rattle.record.specs.Record.{recordedOf}
+use Rattle.record.specs.Record.{badCount, recordedOf}
 use Rattle.lexical.specs.Lexical.{compareOf}
 use Rattle.float.proofs.Tests.{neither}
 use Rattle.key.specs.declared.Written.{Written}
@@ -50,35 +50,41 @@ module _ (ns bs : List ℕ) (even : length ns ≡ length bs) {i : ℕ} (i-is : i
 
 -- ---- comparison
 
-module _ (ns xs ms ys : List ℕ) {s t : Bool} (s-is : s ≡ anyUnnamed ns) (t-is : t ≡ anyUnnamed ms) where
-  pub order-unnamed : (s || t) ≡ true → refuses 7 0 ≡ recordsOrder ns xs ms ys
+module _ (ns xs ms ys : List ℕ) {c d : Bool} (c-is : c ≡ badCount (length ns)) (d-is : d ≡ badCount (length ms)) where
+  pub order-miscounted : (c || d) ≡ true → refuses 11 0 ≡ recordsOrder ns xs ms ys
   unfolding recordsOrder
-  order-unnamed h = rw (← s-is, ← t-is, h)
+  order-miscounted h = rw (← c-is, ← d-is, h)
 
-  module _ (named : (s || t) ≡ false) where
-    pub order-uneven : (uneven ns xs || uneven ms ys) ≡ true → refuses 9 0 ≡ recordsOrder ns xs ms ys
+  module _ (counted : (c || d) ≡ false) {s t : Bool} (s-is : s ≡ anyUnnamed ns) (t-is : t ≡ anyUnnamed ms) where
+    pub order-unnamed : (s || t) ≡ true → refuses 7 0 ≡ recordsOrder ns xs ms ys
     unfolding recordsOrder
-    order-uneven h = rw (← s-is, ← t-is, named, h)
+    order-unnamed h = rw (← c-is, ← d-is, counted, ← s-is, ← t-is, h)
 
-    module _ (even : (uneven ns xs || uneven ms ys) ≡ false) where
-      abbrev both : (length ns ≡ length xs) × (length ms ≡ length ys)
-      both = even-both ns xs ms ys even
+    module _ (named : (s || t) ≡ false) where
+      pub order-uneven : (uneven ns xs || uneven ms ys) ≡ true → refuses 9 0 ≡ recordsOrder ns xs ms ys
+      unfolding recordsOrder
+      order-uneven h = rw (← c-is, ← d-is, counted, ← s-is, ← t-is, named, h)
 
-      module _ {i : ℕ} (i-is : i ≡ firstWide (pairedSamples ns xs)) where
-        pub order-first-wide : i < length ns → refuses 4 i ≡ recordsOrder ns xs ms ys
-        unfolding recordsOrder
-        order-first-wide h = rw (← s-is, ← t-is, named, even) (wide-stop ns xs (both .0) i-is _ h)
+      module _ (even : (uneven ns xs || uneven ms ys) ≡ false) where
+        abbrev both : (length ns ≡ length xs) × (length ms ≡ length ys)
+        both = even-both ns xs ms ys even
 
-        module _ (first : length ns ≤ i) {j : ℕ} (j-is : j ≡ firstWide (pairedSamples ms ys)) where
-          pub order-second-wide : j < length ms → refuses 4 j ≡ recordsOrder ns xs ms ys
+        module _ {i : ℕ} (i-is : i ≡ firstWide (pairedSamples ns xs)) where
+          pub order-first-wide : i < length ns → refuses 4 i ≡ recordsOrder ns xs ms ys
           unfolding recordsOrder
-          order-second-wide h = rw (← s-is, ← t-is, named, even) (wide-stop ms ys (both .1) j-is _ h ∙ sym (wide-past ns xs (both .0) i-is _ first))
+          order-first-wide h = rw (← c-is, ← d-is, counted, ← s-is, ← t-is, named, even) (wide-stop ns xs (both .0) i-is _ h)
 
-          pub order-given : length ms ≤ j → {a b : Record} → a ≡ recordFor (pairedSamples ns xs) → b ≡ recordFor (pairedSamples ms ys)
-              → compareOf a b ≡ recordsOrder ns xs ms ys
-          unfolding recordsOrder
-          order-given second p q =
-              rw (p, q, ← s-is, ← t-is, named, even) (sym (wide-past ns xs (both .0) i-is _ first ∙ wide-past ms ys (both .1) j-is _ second))
+          module _ (first : length ns ≤ i) {j : ℕ} (j-is : j ≡ firstWide (pairedSamples ms ys)) where
+            pub order-second-wide : j < length ms → refuses 4 j ≡ recordsOrder ns xs ms ys
+            unfolding recordsOrder
+            order-second-wide h = rw (← c-is, ← d-is, counted, ← s-is, ← t-is, named, even)
+                (wide-stop ms ys (both .1) j-is _ h ∙ sym (wide-past ns xs (both .0) i-is _ first))
+
+            pub order-given : length ms ≤ j → {a b : Record} → a ≡ recordFor (pairedSamples ns xs) → b ≡ recordFor (pairedSamples ms ys)
+                → compareOf a b ≡ recordsOrder ns xs ms ys
+            unfolding recordsOrder
+            order-given second p q = rw (p, q, ← c-is, ← d-is, counted, ← s-is, ← t-is, named, even)
+                (sym (wide-past ns xs (both .0) i-is _ first ∙ wide-past ms ys (both .1) j-is _ second))
 
 -- ---- writing a key
 
@@ -91,28 +97,33 @@ module _ (ns bs old : List ℕ) where
   unfolding keyExit
   refused-so q h = (q ∙ ap measuredOf h, rw (← h))
 
-  module _ {s : Bool} (s-is : s ≡ anyUnnamed ns) where
-    pub write-unnamed : s ≡ true → {m : Measured} → m ≡ measuredOf (refuses 7 0) → Left m old
+  module _ {c : Bool} (c-is : c ≡ badCount (length ns)) where
+    pub write-miscounted : c ≡ true → {m : Measured} → m ≡ measuredOf (refuses 11 0) → Left m old
     unfolding keyLength
-    write-unnamed h q = refused-so q (rw (← s-is, h))
+    write-miscounted h q = refused-so q (rw (← c-is, h))
 
-    module _ (named : s ≡ false) where
-      pub write-uneven : (length ns ≡ length bs → ⊥) → {m : Measured} → m ≡ measuredOf (refuses 9 0) → Left m old
+    module _ (counted : c ≡ false) {s : Bool} (s-is : s ≡ anyUnnamed ns) where
+      pub write-unnamed : s ≡ true → {m : Measured} → m ≡ measuredOf (refuses 7 0) → Left m old
       unfolding keyLength
-      write-uneven h q = refused-so q (rw (← s-is, named, ne-eqb (length ns) (length bs) h))
+      write-unnamed h q = refused-so q (rw (← c-is, counted, ← s-is, h))
 
-      module _ (even : length ns ≡ length bs) {i : ℕ} (i-is : i ≡ firstWide (pairedSamples ns bs)) where
-        pub write-wide : i < length ns → {m : Measured} → m ≡ measuredOf (refuses 4 i) → Left m old
+      module _ (named : s ≡ false) where
+        pub write-uneven : (length ns ≡ length bs → ⊥) → {m : Measured} → m ≡ measuredOf (refuses 9 0) → Left m old
         unfolding keyLength
-        write-wide h q = refused-so q (rw (← s-is, named, eq-eqb (length ns) (length bs) even) (wide-stop ns bs even i-is _ h))
+        write-uneven h q = refused-so q (rw (← c-is, counted, ← s-is, named, ne-eqb (length ns) (length bs) h))
 
-        pub write-given : length ns ≤ i → {r : Record} → r ≡ recordFor (pairedSamples ns bs) → (w : Written) (new : List ℕ)
-            → (writtenOutcome w ≡ writeOf r (length old)) × (new ≡ writeExit r old) → {m : Measured} → m ≡ measuredOf (writtenOutcome w) → Left m new
-        unfolding keyLength keyExit writeExit
-        write-given h q w new e a =
-            let past : writeOf (recordFor (pairedSamples ns bs)) (length old) ≡ keyLength ns bs (length old) =
-            rw (← s-is, named, eq-eqb (length ns) (length bs) even) (sym (wide-past ns bs even i-is _ h)) in
-            (a ∙ ap measuredOf (rw q at (e .0) ∙ past), rw q at (e .1) ∙ rw (← past))
+        module _ (even : length ns ≡ length bs) {i : ℕ} (i-is : i ≡ firstWide (pairedSamples ns bs)) where
+          pub write-wide : i < length ns → {m : Measured} → m ≡ measuredOf (refuses 4 i) → Left m old
+          unfolding keyLength
+          write-wide h q = refused-so q (rw (← c-is, counted, ← s-is, named, eq-eqb (length ns) (length bs) even) (wide-stop ns bs even i-is _ h))
+
+          pub write-given : length ns ≤ i → {r : Record} → r ≡ recordFor (pairedSamples ns bs) → (w : Written) (new : List ℕ)
+              → (writtenOutcome w ≡ writeOf r (length old)) × (new ≡ writeExit r old) → {m : Measured} → m ≡ measuredOf (writtenOutcome w) → Left m new
+          unfolding keyLength keyExit writeExit
+          write-given h q w new e a =
+              let past : writeOf (recordFor (pairedSamples ns bs)) (length old) ≡ keyLength ns bs (length old) =
+              rw (← c-is, counted, ← s-is, named, eq-eqb (length ns) (length bs) even) (sym (wide-past ns bs even i-is _ h)) in
+              (a ∙ ap measuredOf (rw q at (e .0) ∙ past), rw q at (e .1) ∙ rw (← past))
 
 -- ---- reading a key
 
@@ -144,30 +155,36 @@ module _ (ns key old : List ℕ) where
   unfolding readExit
   read-so q h = (rw (← h) q, rw (← h))
 
-  module _ {s : Bool} (s-is : s ≡ anyUnnamed ns) where
-    pub read-unnamed : s ≡ true → {a : Answer} → a ≡ answeredOf (refuses 7 0) → Read a old
+  module _ {c : Bool} (c-is : c ≡ badCount (length ns)) where
+    pub read-miscounted : c ≡ true → {a : Answer} → a ≡ answeredOf (refuses 11 0) → Read a old
     unfolding recordRead
-    read-unnamed h q = read-so q (rw (← s-is, h))
+    read-miscounted h q = read-so q (rw (← c-is, h))
 
-    module _ (named : s ≡ false) where
-      pub read-uneven : (length ns ≡ length old → ⊥) → {a : Answer} → a ≡ answeredOf (refuses 9 0) → Read a old
+    module _ (counted : c ≡ false) {s : Bool} (s-is : s ≡ anyUnnamed ns) where
+      pub read-unnamed : s ≡ true → {a : Answer} → a ≡ answeredOf (refuses 7 0) → Read a old
       unfolding recordRead
-      read-uneven h q = read-so q (rw (← s-is, named, ne-eqb (length ns) (length old) h))
+      read-unnamed h q = read-so q (rw (← c-is, counted, ← s-is, h))
 
-      module _ (even : length ns ≡ length old) {sh : Shape} (sh-is : sh ≡ shapeFor ns) {x : Recorded} (x-is : x ≡ recordedOf (readOf sh key)) where
-        said : recordedOutcome x ≡ readOf (shapeFor ns) key
-        said = rw (x-is, sh-is) (recorded-back (readOf (shapeFor ns) key))
+      module _ (named : s ≡ false) where
+        pub read-uneven : (length ns ≡ length old → ⊥) → {a : Answer} → a ≡ answeredOf (refuses 9 0) → Read a old
+        unfolding recordRead
+        read-uneven h q = read-so q (rw (← c-is, counted, ← s-is, named, ne-eqb (length ns) (length old) h))
 
-        pub read-room : Room (recordedOutcome x) (length old)
-        read-room = rw said (go (readOf (shapeFor ns) key) refl)
-          where
-            go : (o : Outcome Record) → readOf (shapeFor ns) key ≡ o → Room o (length old)
-            go (gives r) e = let q = read-count (shapeFor ns) key r (shape-places ns) e in (rw (← q .0) at (q .1), sym even ∙ sym (q .0))
-            go (refuses n p) e = tt
+        module _ (even : length ns ≡ length old) {sh : Shape} (sh-is : sh ≡ shapeFor ns) {x : Recorded} (x-is : x ≡ recordedOf (readOf sh key)) where
+          said : recordedOutcome x ≡ readOf (shapeFor ns) key
+          said = rw (x-is, sh-is) (recorded-back (readOf (shapeFor ns) key))
 
-        pub read-given : (a : Answer) (new : List ℕ) → (a ≡ answeredOf (successOf (recordedOutcome x)))
-            × (new ≡ lentAfter recordBits (recordedOutcome x) old) → Read a new
-        unfolding recordRead readExit
-        read-given a new e =
-            let past : readOf (shapeFor ns) key ≡ recordRead ns key (length old) = rw (← s-is, named, eq-eqb (length ns) (length old) even) in
-            (rw said at (e .0) ∙ rw (← past), rw said at (e .1) ∙ rw (← past))
+          pub read-room : Room (recordedOutcome x) (length old)
+          read-room = rw said (go (readOf (shapeFor ns) key) refl)
+            where
+              go : (o : Outcome Record) → readOf (shapeFor ns) key ≡ o → Room o (length old)
+              go (gives r) e = let q = read-count (shapeFor ns) key r (shape-places ns) e in (rw (← q .0) at (q .1), sym even ∙ sym (q .0))
+              go (refuses n p) e = tt
+
+          pub read-given : (a : Answer) (new : List ℕ) → (a ≡ answeredOf (successOf (recordedOutcome x)))
+              × (new ≡ lentAfter recordBits (recordedOutcome x) old) → Read a new
+          unfolding recordRead readExit
+          read-given a new e =
+              let past : readOf (shapeFor ns) key ≡ recordRead ns key (length old) =
+              rw (← c-is, counted, ← s-is, named, eq-eqb (length ns) (length old) even) in
+              (rw said at (e .0) ∙ rw (← past), rw said at (e .1) ∙ rw (← past))

@@ -1,11 +1,12 @@
 -- Outcomes and ranges as the numbers that pass the boundary: after a refusal its number and its place, and 0 for what a call would give.
-use Prim.Native.Nat.{ℕ}
+use Prim.Native.Nat.{ℕ, _≤_}
 use lib.Ieee.{Float}
 use lib.IntN.{ℤ, pos}
 use Rattle.float.specs.declared.Order.{Order}
 use Rattle.float.specs.declared.Order.the-variants.{Less, Equal, Greater, Unordered}
 use Rattle.float.specs.declared.Class.{Class}
 use Rattle.float.specs.declared.Class.the-variants.{Zero, Subnormal, Normal, Infinite, Nan}
+use Rattle.value.specs.declared.Kind.{Kind}
 use Rattle.value.specs.declared.Value.{Value}
 use Rattle.value.specs.Kinds.{kindOf, kindNumber}
 use Rattle.value.specs.Meaning.{bitsOf}
@@ -17,6 +18,11 @@ use Rattle.silamogo.specs.declared.Classed.{Classed}
 use Rattle.silamogo.specs.declared.Positioned.{Positioned}
 use Rattle.silamogo.specs.declared.Sampled.{Sampled}
 use Rattle.silamogo.specs.declared.Measured.{Measured}
+
+-- a refusal has a number from 1 on: 0 tells that there is none
+abbrev pub Numbered : {A : Type 0} → Outcome A → Type 0
+Numbered (gives a) = Unit {0}
+Numbered (refuses number place) = 1 ≤ number
 
 -- the number and the place of a refusal, 0 and 0 for success
 abbrev pub answeredOf : Outcome Success → Answer
@@ -52,6 +58,10 @@ classedOf (refuses number place) = record { number = number; place = place; clas
 abbrev pub positionedOf : Outcome ℤ → Positioned
 positionedOf (gives z) = record { number = 0; place = 0; position = z }
 positionedOf (refuses number place) = record { number = number; place = place; position = pos 0 }
+
+-- what is told of a value: its kind and its bits
+abbrev pub kindAndBits : Value → Kind × ℕ
+kindAndBits v = (kindOf v, bitsOf v)
 
 -- a sample: its kind's number and its bits
 abbrev pub sampledOf : Outcome Value → Sampled

@@ -14,7 +14,7 @@ use Rattle.record.specs.declared.Field.{Field}
 use Rattle.record.specs.declared.Place.{Place}
 use Rattle.record.specs.declared.Record.{Record}
 use Rattle.record.specs.declared.Shape.{Shape}
-use Rattle.record.specs.Record.{fieldFor, fieldsOf, placeFor}
+use Rattle.record.specs.Record.{fieldFor, fieldsOf, placeFor, badCount}
 use Rattle.lexical.specs.Lexical.{compareOf}
 use Rattle.key.specs.Key.{keyOf, writeOf, readOf}
 use Rattle.silamogo.specs.declared.Sample.{Sample}
@@ -68,22 +68,28 @@ recordBits r = map fieldBits (fieldsOf r)
 abbrev pub uneven : List ℕ → List ℕ → Bool
 uneven ns bs = not (eqb (length ns) (length bs))
 
--- of two records: 7, 9, and 4 in the first before 4 in the second
+-- of two records: 11 for either count, 7, 9, and 4 in the first before 4 in the second
 abbrev pub twoRecordsRules : List ℕ → List ℕ → List ℕ → List ℕ → List Rule
 twoRecordsRules ns xs ms ys =
-    rule 7 0 (anyUnnamed ns || anyUnnamed ms)
+    rule 11 0 (badCount (length ns) || badCount (length ms))
+    ∷ rule 7 0 (anyUnnamed ns || anyUnnamed ms)
     ∷ rule 9 0 (uneven ns xs || uneven ms ys)
     ∷ wideRule (pairedSamples ns xs)
     ∷ wideRule (pairedSamples ms ys)
     ∷ []
 
--- of one record: 7, 9, 4
+-- of one record: 11, 7, 9, 4
 abbrev pub fieldRules : List ℕ → List ℕ → List Rule
-fieldRules ns bs = rule 7 0 (anyUnnamed ns) ∷ rule 9 0 (uneven ns bs) ∷ wideRule (pairedSamples ns bs) ∷ []
+fieldRules ns bs =
+    rule 11 0 (badCount (length ns))
+    ∷ rule 7 0 (anyUnnamed ns)
+    ∷ rule 9 0 (uneven ns bs)
+    ∷ wideRule (pairedSamples ns bs)
+    ∷ []
 
--- of a shape and a lent row of bits: 7, then 9 for a row that isn't as long
+-- of a shape and a lent row of bits: 11, 7, then 9 for a row that isn't as long
 abbrev pub roomRules : List ℕ → ℕ → List Rule
-roomRules ns room = rule 7 0 (anyUnnamed ns) ∷ rule 9 0 (not (eqb (length ns) room)) ∷ []
+roomRules ns room = rule 11 0 (badCount (length ns)) ∷ rule 7 0 (anyUnnamed ns) ∷ rule 9 0 (not (eqb (length ns) room)) ∷ []
 
 -- ---- the calls
 

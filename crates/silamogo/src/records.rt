@@ -20,6 +20,7 @@ use crate::fields::record_for;
 use crate::fields::shape_for;
 use record::Made;
 use record::Recorded;
+use record::bad_count;
 
 #[no_mangle]
 pub extern "C" fn silamogo_record_compare(
@@ -30,6 +31,9 @@ pub extern "C" fn silamogo_record_compare(
 ) -> Ordered
     ensures { λ r. ⌜ r ≡ orderedOf (recordsOrder (now («a_kinds» .entry)) (now («a_bits» .entry)) (now («b_kinds» .entry)) (now («b_bits» .entry))) ⌝ }
 {
+    if bad_count(a_kinds.len()) | bad_count(b_kinds.len()) {
+        return order_refused(11, 0);
+    }
     if any_unnamed(a_kinds) | any_unnamed(b_kinds) {
         return order_refused(7, 0);
     }
@@ -52,6 +56,9 @@ pub extern "C" fn silamogo_key_write(kinds: &[u8], bits: &[u64], buffer: &mut [u
     ensures answer { λ r. ⌜ r ≡ measuredOf (keyLength (now (kinds .entry)) (now (bits .entry)) (length (now (buffer .entry)))) ⌝ }
     ensures exit { λ _. ⌜ now (buffer .exit) ≡ keyExit (now (kinds .entry)) (now (bits .entry)) (now (buffer .entry)) ⌝ }
 {
+    if bad_count(kinds.len()) {
+        return measure_refused(11, 0);
+    }
     if any_unnamed(kinds) {
         return measure_refused(7, 0);
     }
@@ -90,6 +97,9 @@ pub extern "C" fn silamogo_key_read(kinds: &[u8], key: &[u8], bits: &mut [u64]) 
     ensures answer { λ r. ⌜ r ≡ answeredOf (successOf (recordRead (now (kinds .entry)) (now (key .entry)) (length (now (bits .entry))))) ⌝ }
     ensures exit { λ _. ⌜ now (bits .exit) ≡ readExit (now (kinds .entry)) (now (key .entry)) (now (bits .entry)) ⌝ }
 {
+    if bad_count(kinds.len()) {
+        return answer_refused(11, 0);
+    }
     if any_unnamed(kinds) {
         return answer_refused(7, 0);
     }

@@ -1,5 +1,6 @@
 //! Cases that no line has: numbers that name no kind, bits that a kind doesn't
-//! have, lists that differ in length; and positions. The rules that the boundary
+//! have, lists that differ in length, all of these with too few or too many
+//! fields; and positions. The rules that the boundary
 //! adds stand here, before the judges of case lines.
 
 use crate::calls::{self, kind, same, Raw, RawRecord};
@@ -117,11 +118,22 @@ fn convert(random: &mut Random) -> Result<(), String> {
     same(&format!("convert {s:x?} {to}"), &text(converted), &got)
 }
 
+/// No kinds, or 13: those of the list, and behind them any.
+fn miscounted(random: &mut Random, kinds: &mut Vec<u8>) {
+    let count = random.pick(&[0, 13]);
+    kinds.resize_with(count, || any_number(random));
+}
+
 /// A record of one line, damaged as no line can be.
 fn damaged(random: &mut Random, record: &[Value]) -> RawRecord {
     let mut raw = calls::raw_record(record);
+    if random.one_in(6) {
+        miscounted(random, &mut raw.kinds);
+        let sample = |&number: &u8| any_sample(random, number).bits;
+        raw.bits = raw.kinds.iter().map(sample).collect();
+    }
     for _ in 0..random.below(3) {
-        let place = random.below(record.len().max(1));
+        let place = random.below(raw.bits.len().max(1));
         match (random.below(4), raw.bits.get_mut(place)) {
             (0, Some(bits)) => *bits |= 1 << random.below(64),
             (1, Some(_)) if place < raw.kinds.len() => raw.kinds[place] = any_number(random),
@@ -133,9 +145,12 @@ fn damaged(random: &mut Random, record: &[Value]) -> RawRecord {
     raw
 }
 
-/// The records; else the refusal of the first rule that holds: every kind, then
-/// every length, then the bits, record by record.
+/// The records; else the refusal of the first rule that holds: every count, then
+/// every kind, then every length, then the bits, record by record.
 fn fields(raws: &[&RawRecord]) -> Answer<Vec<Record>> {
+    for raw in raws {
+        records::count(raw.kinds.len())?;
+    }
     let shapes: Answer<Vec<Vec<Kind>>> = raws.iter().map(|raw| named(&raw.kinds)).collect();
     let shapes = shapes?;
     if raws.iter().any(|raw| raw.kinds.len() != raw.bits.len()) {
@@ -172,7 +187,8 @@ fn write(random: &mut Random) -> Result<(), String> {
     same(&format!("write {} {room}", shown(&raw)), &wanted, &got)
 }
 
-/// A room for another number of fields, or a number that names no kind.
+/// A room for another number of fields, a number that names no kind, or too few
+/// or too many kinds.
 fn read(random: &mut Random) -> Result<(), String> {
     let operands = operands::key::read(random);
     let (kinds, bytes_of_key) = operands.split_once(' ').expect("a shape and a key");
@@ -183,11 +199,15 @@ fn read(random: &mut Random) -> Result<(), String> {
         let place = random.below(kinds.len());
         kinds[place] = any_number(random);
     }
+    if random.one_in(6) {
+        miscounted(random, &mut kinds);
+    }
     let room = match random.below(4) {
         0 => random.below(14),
         _ => kinds.len(),
     };
-    let wanted = text(named(&kinds).and_then(|shape| match room == kinds.len() {
+    let shape = records::count(kinds.len()).and_then(|()| named(&kinds));
+    let wanted = text(shape.and_then(|shape| match room == kinds.len() {
         true => key::read(&shape, &bytes),
         false => Err((9, 0)),
     }));
