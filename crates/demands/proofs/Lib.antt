@@ -1,5 +1,6 @@
 pub mod Demand1
 pub mod Boundary
+pub mod Blocks
 pub mod Floats
 pub mod Conversion
 pub mod Choosing
