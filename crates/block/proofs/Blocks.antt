@@ -1,5 +1,5 @@
 -- What one sample, a block and a step answer and leave, by what the passes found.
-use mathlib.Core.Path.{_≡_, refl, sym, _∙_, ap}
+use mathlib.Core.Path.{_≡_, refl, sym, _∙_, ap, subst}
 use mathlib.Core.Bool.{Bool, true, false, true≢false}
 use mathlib.Core.List.{List, _++_, map}
 use Prim.Native.Nat.{ℕ, _+_, _*_, _/_, _%_, _^_, _≤_, _<_}
@@ -12,8 +12,9 @@ use Rattle.value.specs.declared.Kind.{Kind}
 use Rattle.value.specs.declared.Value.{Value}
 use Rattle.value.specs.Meaning.{valueOf}
 use Rattle.value.specs.Outcome.{Outcome, gives, refuses, refuseIf, andThen, Success, done, lentAfter}
+use Rattle.value.specs.Rules.{chain}
 use Rattle.value.proofs.Outcomes.{refused-unchanged}
-use Rattle.row.specs.Row.{rowAnswer, rowResults, first}
+use Rattle.row.specs.Row.{rowResults, first}
 use Rattle.row.proofs.Scan.{first-all, first-hit}
 use Rattle.row.proofs.Rows.{row-refused, row-done}
 use Rattle.value.specs.Kinds.{bytesOf}
@@ -21,7 +22,7 @@ use Rattle.sample.specs.Samples.{countOf, leftOf, samplesOf, sampleAt}
 use Rattle.sample.specs.Refusals.{bitsTo, isRefused, refusalNumber, refusedTo}
 use Rattle.sample.proofs.Samplings.{length-samples}
 use Rattle.block.specs.Output.{bytesFor}
-use Rattle.block.specs.Migrate.{outputOf, placedFrom, blockAnswer, stepSamples, stepAnswer, stepExit}
+use Rattle.block.specs.Migrate.{outputOf, placedFrom, stepSamples, roomRules, blockAnswer, stepAnswer, stepExit}
 use Rattle.block.specs.Inner.{blockExit, givenBits, movedBits}
 use Rattle.block.proofs.Samplings.{room-inside, length-bytes}
 
@@ -37,33 +38,20 @@ refused-number (refuses m p) h = (p, refl)
 
 -- ---- a block
 
-pub past-room : (from to : Kind) (src : List ℕ) (room : ℕ) → countOf from src ≤ room / bytesOf to
-    → blockAnswer from to src room ≡ rowAnswer (bitsTo to) 0 (samplesOf from src)
-unfolding blockAnswer
-past-room from to src room h =
-    ap (λ (b : Bool). refuseIf b 9 0 (rowAnswer (bitsTo to) 0 (samplesOf from src))) (le-ltb (room / bytesOf to) (countOf from src) h)
-
 module _ (from to : Kind) (src old : List ℕ) where
   abbrev samples : List Value
   samples = samplesOf from src
 
   abbrev pub BlockAnswers : Outcome Success → List ℕ → Type 0
-  BlockAnswers answer left = (answer ≡ blockAnswer from to src (length old)) × (left ≡ blockExit from to src old)
+  BlockAnswers answer left = (answer ≡ blockAnswer from to src) × (left ≡ blockExit from to src old)
 
-  pub block-refused : {m p : ℕ} → refuses m p ≡ blockAnswer from to src (length old) → BlockAnswers (refuses m p) old
+  pub block-refused : {m p : ℕ} → refuses m p ≡ blockAnswer from to src → BlockAnswers (refuses m p) old
   unfolding blockExit
   block-refused q = (q, sym (refused-unchanged (λ (d : Success). outputOf from to src) old (sym q)))
 
-  no-room : length old / bytesOf to < countOf from src → refuses 9 0 ≡ blockAnswer from to src (length old)
-  unfolding blockAnswer
-  no-room h = rw (lt-ltb (length old / bytesOf to) (countOf from src) h) refl
-
-  pub block-short : length old / bytesOf to < countOf from src → BlockAnswers (refuses 9 0) old
-  block-short h = block-refused (no-room h)
-
   -- what a block without a refusal leaves
   pub block-output : (rs : List ℕ) → countOf from src ≤ length old / bytesOf to
-      → gives done ≡ blockAnswer from to src (length old) → rowResults (bitsTo to) samples ≡ rs → length rs ≡ countOf from src
+      → gives done ≡ blockAnswer from to src → rowResults (bitsTo to) samples ≡ rs → length rs ≡ countOf from src
       → {now : List ℕ} → now ≡ sets old 0 (bytesFor to rs) → BlockAnswers (gives done) now
   unfolding blockExit outputOf
   block-output rs room o r many {now} q =
@@ -76,14 +64,12 @@ module _ (from to : Kind) (src old : List ℕ) where
             ∙ ap (λ a. lentAfter (λ (d : Success). bytesFor to (rowResults (bitsTo to) samples)) a old) o,
       )
 
-  module _ (room : countOf from src ≤ length old / bytesOf to) (i : ℕ) (i-is : i ≡ first (refusedTo to) samples) where
-    passed : blockAnswer from to src (length old) ≡ rowAnswer (bitsTo to) 0 samples
-    passed = past-room from to src (length old) room
-
+  module _ (i : ℕ) (i-is : i ≡ first (refusedTo to) samples) where
     count-is : length samples ≡ countOf from src
     count-is = length-samples from (countOf from src) src
 
     pub block-bad : i < countOf from src → {m : ℕ} → m ≡ refusalNumber (bitsTo to (sampleAt from src i)) → BlockAnswers (refuses m i) old
+    unfolding blockAnswer
     block-bad h {m} q =
         let l : i < length samples = omega (arith, count-is) in
         let hit = first-hit (refusedTo to) samples i (valueOf from 0) i-is l in
@@ -92,14 +78,16 @@ module _ (from to : Kind) (src old : List ℕ) where
         ap (λ (j : ℕ). bitsTo to (getD samples j (valueOf from 0))) (sym i-is) ∙ bad .1 ∙ ap (λ (k : ℕ). refuses k (bad .0)) (sym q) in
         let r = row-refused (bitsTo to) (refusedTo to) (movedBits to) (λ v. Unit {0}) (valueOf from 0)
         (λ v u t. given-bits (bitsTo to v) t) m (bad .0) 0 samples (λ j k. tt) (omega arith) at in
-        block-refused (sym (passed ∙ r ∙ ap (λ (j : ℕ). refuses m j) (zero-add (first (refusedTo to) samples) ∙ sym i-is)))
+        block-refused (sym (r ∙ ap (λ (j : ℕ). refuses m j) (zero-add (first (refusedTo to) samples) ∙ sym i-is)))
 
-    pub block-done : countOf from src ≤ i → {now : List ℕ} → now ≡ sets old 0 (bytesFor to (map (movedBits to) samples)) → BlockAnswers (gives done) now
-    block-done h {now} q =
+    pub block-done : countOf from src ≤ length old / bytesOf to → countOf from src ≤ i
+        → {now : List ℕ} → now ≡ sets old 0 (bytesFor to (map (movedBits to) samples)) → BlockAnswers (gives done) now
+    unfolding blockAnswer
+    block-done room h {now} q =
         let all = first-all (refusedTo to) samples i i-is (omega (arith, count-is)) in
         let r = row-done (bitsTo to) (refusedTo to) (movedBits to) (λ v. Unit {0}) (valueOf from 0)
         (λ v u t. given-bits (bitsTo to v) t) 0 samples (λ j k. tt) all in
-        block-output (map (movedBits to) samples) room (sym (passed ∙ r .0)) (r .1) (length-map samples (movedBits to) ∙ count-is) q
+        block-output (map (movedBits to) samples) room (sym (r .0)) (r .1) (length-map samples (movedBits to) ∙ count-is) q
 
 -- the counts that the code asked for
 pub shorter : (l : ℕ) {m n v y : ℕ} → m ≡ n → v ≡ y → l / v < m → l / y < n
@@ -116,13 +104,30 @@ same-left n (gives d) output old = refl
 same-left n (refuses m p) output old = refl
 
 module _ (from to : Kind) (before : ℕ) (answer : Outcome Success) (src : List ℕ) (room : ℕ) where
-  pub left-over : (leftOf from src ≡ 0 → ⊥) → refuses 9 (stepSamples from before src) ≡ stepAnswer from to before answer src room
+  pub left-over : (leftOf from src ≡ 0 → ⊥) → stepAnswer from to before answer src room ≡ refuses 9 (stepSamples from before src)
   unfolding stepAnswer
   left-over h = rw (ne-eqb (leftOf from src) 0 h) refl
 
-  pub past-left : leftOf from src ≡ 0 → stepAnswer from to before answer src room ≡ andThen answer (λ d. placedFrom before (blockAnswer from to src room))
+  past-left : leftOf from src ≡ 0
+      → stepAnswer from to before answer src room ≡ andThen answer (λ d. chain (roomRules from to src room) (placedFrom before (blockAnswer from to src)))
   unfolding stepAnswer
   past-left none = rw (eq-eqb (leftOf from src) 0 none) refl
+
+  pub past-room : leftOf from src ≡ 0 → countOf from src ≤ room / bytesOf to
+      → stepAnswer from to before answer src room ≡ andThen answer (λ d. placedFrom before (blockAnswer from to src))
+  past-room none fits =
+      past-left none
+      ∙ ap (λ (b : Bool). andThen answer (λ d. refuseIf b 9 0 (placedFrom before (blockAnswer from to src))))
+      (le-ltb (room / bytesOf to) (countOf from src) fits)
+
+module _ (from to : Kind) (before : ℕ) (src : List ℕ) (room : ℕ) (none : leftOf from src ≡ 0) where
+  pub earlier-stays : (m p : ℕ) → stepAnswer from to before (refuses m p) src room ≡ refuses m p
+  earlier-stays m p = past-left from to before (refuses m p) src room none
+
+  pub no-room : room / bytesOf to < countOf from src → stepAnswer from to before (gives done) src room ≡ refuses 9 0
+  no-room h =
+      past-left from to before (gives done) src room none
+      ∙ ap (λ (b : Bool). refuseIf b 9 0 (placedFrom before (blockAnswer from to src))) (lt-ltb (room / bytesOf to) (countOf from src) h)
 
 module _ (from to : Kind) (before : ℕ) (answer : Outcome Success) (src old : List ℕ) where
   abbrev pub StepAnswers : Outcome Success → List ℕ → Type 0
@@ -132,33 +137,34 @@ module _ (from to : Kind) (before : ℕ) (answer : Outcome Success) (src old : L
   unfolding stepSamples
   step-count p q = q ∙ rw p refl
 
-  step-refused : {m p : ℕ} → refuses m p ≡ stepAnswer from to before answer src (length old) → StepAnswers (refuses m p) old
+  step-refused : {m p : ℕ} → stepAnswer from to before answer src (length old) ≡ refuses m p → StepAnswers (refuses m p) old
   unfolding stepExit
-  step-refused q = (q, sym (refused-unchanged (λ (d : Success). outputOf from to src) old (sym q)))
+  step-refused q = (sym q, sym (refused-unchanged (λ (d : Success). outputOf from to src) old q))
 
   pub step-left : (leftOf from src ≡ 0 → ⊥) → StepAnswers (refuses 9 (stepSamples from before src)) old
   step-left h = step-refused (left-over from to before answer src (length old) h)
 
-  module _ (none : leftOf from src ≡ 0) where
-    passed-left : stepAnswer from to before answer src (length old) ≡ andThen answer (λ d. placedFrom before (blockAnswer from to src (length old)))
-    passed-left = past-left from to before answer src (length old) none
+-- an earlier refusal, and none
+pub step-stays : (from to : Kind) (before : ℕ) (answer : Outcome Success) (src old : List ℕ) → leftOf from src ≡ 0
+    → {m p : ℕ} → answer ≡ refuses m p → StepAnswers from to before answer src old answer old
+step-stays from to before answer src old none {m} {p} e =
+    subst (λ a. StepAnswers from to before a src old a old) (sym e)
+    (step-refused from to before (refuses m p) src old (earlier-stays from to before src (length old) none m p))
 
-    -- an earlier refusal stays
-    pub step-stays : {m p : ℕ} → answer ≡ refuses m p → StepAnswers answer old
-    step-stays {m} {p} e =
-        let q : refuses m p ≡ stepAnswer from to before answer src (length old) =
-        sym (passed-left ∙ ap (λ a. andThen a (λ d. placedFrom before (blockAnswer from to src (length old)))) e) in
-        (e ∙ q, step-refused q .1)
+pub step-accepted : (from to : Kind) (before : ℕ) (answer : Outcome Success) (src old : List ℕ) → answer ≡ gives done
+    → {o : Outcome Success} {now : List ℕ} → StepAnswers from to before (gives done) src old o now → StepAnswers from to before answer src old o now
+step-accepted from to before answer src old e {o} {now} w = subst (λ a. StepAnswers from to before a src old o now) (sym e) w
 
-    pub step-block : answer ≡ gives done → {b o : Outcome Success} {now : List ℕ} → BlockAnswers from to src old b now
-        → o ≡ placedFrom before b → StepAnswers o now
-    unfolding stepExit blockExit
-    step-block e {b} {o} {now} w q =
-        let a : o ≡ stepAnswer from to before answer src (length old) =
-        q ∙ ap (placedFrom before) (w .0) ∙ sym (passed-left ∙ ap (λ a. andThen a (λ d. placedFrom before (blockAnswer from to src (length old)))) e) in
-        let p : placedFrom before (blockAnswer from to src (length old)) ≡ stepAnswer from to before answer src (length old) =
-        ap (placedFrom before) (sym (w .0)) ∙ sym q ∙ a in (
-          a,
-          w .1 ∙ sym (same-left before (blockAnswer from to src (length old)) (outputOf from to src) old)
-              ∙ ap (λ r. lentAfter (λ (d : Success). outputOf from to src) r old) p,
-        )
+module _ (from to : Kind) (before : ℕ) (src old : List ℕ) (none : leftOf from src ≡ 0) where
+  pub step-short : length old / bytesOf to < countOf from src → StepAnswers from to before (gives done) src old (refuses 9 0) old
+  step-short h = step-refused from to before (gives done) src old (no-room from to before src (length old) none h)
+
+  pub step-block : countOf from src ≤ length old / bytesOf to → {b o : Outcome Success} {now : List ℕ} → BlockAnswers from to src old b now
+      → o ≡ placedFrom before b → StepAnswers from to before (gives done) src old o now
+  unfolding stepExit blockExit
+  step-block room {b} {o} {now} w q =
+      let behind = past-room from to before (gives done) src (length old) none room in (
+        q ∙ ap (placedFrom before) (w .0) ∙ sym behind,
+        w .1 ∙ sym (same-left before (blockAnswer from to src) (outputOf from to src) old)
+            ∙ ap (λ r. lentAfter (λ (d : Success). outputOf from to src) r old) (sym behind),
+      )

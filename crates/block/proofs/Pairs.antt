@@ -169,17 +169,17 @@ module _ (src old row : List ℕ) (row-has : row ≡ numbersIn 2 (countOf kind.U
       → zs ≡ convertExit u16ToU8 row front → BlockAnswers kind.U16 kind.U8 src old o (zs ++ drop (length row) old)
   unfolding convertExit
   narrowed-block (gives done) {zs} q z =
-      let left : zs ≡ rowResults u16ToU8 row = z ∙ left-is kind.U16 kind.U8 src old inside u16ToU8 (λ n. n) row front 0 (greys .0) same-front (greys .1) q in
+      let left : zs ≡ rowResults u16ToU8 row = z ∙ left-is kind.U16 kind.U8 src old u16ToU8 (λ n. n) row front 0 (greys .0) same-front (greys .1) q in
       let size : length zs ≡ length row =
       ap length left ∙ results-length u16ToU8 0 row
-      (sym (q ∙ row-is kind.U16 kind.U8 src old inside u16ToU8 (λ n. n) row front 0 (greys .0) same-front (greys .1))) in
+      (sym (q ∙ row-is kind.U16 kind.U8 src old u16ToU8 (λ n. n) row front 0 (greys .0) same-front (greys .1))) in
       let plain : bytesFor kind.U8 (map (λ (n : ℕ). n) zs) ≡ zs =
       ap (bytesFor kind.U8) (map-same zs ∙ left) ∙ results-bytes u16ToU8 narrow-small row ∙ sym left in
-      row-gives kind.U16 kind.U8 src old inside u16ToU8 (λ n. n) row front 0 (greys .0) same-front (greys .1) q z
+      row-gives kind.U16 kind.U8 src old u16ToU8 (λ n. n) row front 0 (greys .0) same-front (greys .1) inside q z
       (sym (ap (sets old 0) plain ∙ front-set zs old (length row) size room))
   narrowed-block (refuses m p) {zs} q z =
       let left : zs ≡ front = z ∙ refused-unchanged (λ (d : Success). rowResults u16ToU8 row) front (sym q) in
-      let r = row-refuses kind.U16 kind.U8 src old inside u16ToU8 (λ n. n) row front 0 (greys .0) same-front (greys .1) q in
+      let r = row-refuses kind.U16 kind.U8 src old u16ToU8 (λ n. n) row front 0 (greys .0) same-front (greys .1) q in
       (r .0, ap (λ (l : List ℕ). l ++ drop (length row) old) left ∙ take-append-drop (length row) old ∙ r .1)
 
 -- ---- f32 to u16

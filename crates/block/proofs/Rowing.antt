@@ -24,7 +24,7 @@ use Rattle.bytewise.proofs.LittleEndian.{number-below}
 use Rattle.sample.proofs.Samplings.{length-samples, sample-here, length-numbers, number-here}
 use Rattle.block.specs.Output.{bytesFor}
 use Rattle.block.specs.Migrate.{blockAnswer}
-use Rattle.block.proofs.Blocks.{BlockAnswers, past-room, block-refused, block-output}
+use Rattle.block.proofs.Blocks.{BlockAnswers, block-refused, block-output}
 
 pub map-same : (l : List ℕ) → map (λ (n : ℕ). n) l ≡ l
 map-same [] = refl
@@ -73,8 +73,7 @@ results-length {A} {B} conv at (x ∷ xs) h = go (conv x) h (λ k. results-lengt
 
 -- ---- the block by its row
 
-module _ (from to : Kind) (src old : List ℕ) (room : countOf from src ≤ length old / bytesOf to) {A B : Type 0}
-    (conv : A → Outcome B) (enc : B → ℕ) (xs : List A) (ys : List B) (e : A)
+module _ (from to : Kind) (src old : List ℕ) {A B : Type 0} (conv : A → Outcome B) (enc : B → ℕ) (xs : List A) (ys : List B) (e : A)
     (many : length xs ≡ countOf from src) (same : length xs ≡ length ys) (agree : Agree (bitsTo to) conv enc (U8 0) e (samplesOf from src) xs) where
   rows : (rowAnswer (bitsTo to) 0 (samplesOf from src) ≡ rowAnswer conv 0 xs) × (rowResults (bitsTo to) (samplesOf from src) ≡ map enc (rowResults conv xs))
   rows = rows-agree (bitsTo to) conv enc (U8 0) e 0 (samplesOf from src) xs (length-samples from (countOf from src) src ∙ sym many) agree
@@ -83,8 +82,9 @@ module _ (from to : Kind) (src old : List ℕ) (room : countOf from src ≤ leng
   unfolding convertAnswer
   row-is = ap (λ (b : Bool). refuseIf (not b) 9 0 (rowAnswer conv 0 xs)) (eq-eqb (length xs) (length ys) same)
 
-  answer-is : {o : Outcome Success} → o ≡ convertAnswer conv xs ys → o ≡ blockAnswer from to src (length old)
-  answer-is q = q ∙ row-is ∙ sym (rows .0) ∙ sym (past-room from to src (length old) room)
+  answer-is : {o : Outcome Success} → o ≡ convertAnswer conv xs ys → o ≡ blockAnswer from to src
+  unfolding blockAnswer
+  answer-is q = q ∙ row-is ∙ sym (rows .0)
 
   pub row-refuses : {m p : ℕ} → refuses m p ≡ convertAnswer conv xs ys → BlockAnswers from to src old (refuses m p) old
   row-refuses q = block-refused from to src old (answer-is q)
@@ -93,9 +93,10 @@ module _ (from to : Kind) (src old : List ℕ) (room : countOf from src ≤ leng
   unfolding convertExit
   left-is q = given-fills (λ (d : Success). rowResults conv xs) ys (sym q) (results-length conv 0 xs (sym row-is ∙ sym q) ∙ same)
 
-  pub row-gives : gives done ≡ convertAnswer conv xs ys → {zs : List B} → zs ≡ convertExit conv xs ys → {now : List ℕ}
-      → now ≡ sets old 0 (bytesFor to (map enc zs)) → BlockAnswers from to src old (gives done) now
-  row-gives q {zs} z {now} w =
+  pub row-gives : countOf from src ≤ length old / bytesOf to → gives done ≡ convertAnswer conv xs ys
+      → {zs : List B} → zs ≡ convertExit conv xs ys
+      → {now : List ℕ} → now ≡ sets old 0 (bytesFor to (map enc zs)) → BlockAnswers from to src old (gives done) now
+  row-gives room q {zs} z {now} w =
       let r = rowResults conv xs in
       block-output from to src old (map enc r) room (answer-is q) (rows .1)
       (length-map r enc ∙ results-length conv 0 xs (sym row-is ∙ sym q) ∙ many)
@@ -112,7 +113,7 @@ module _ (from to : Kind) (src old : List ℕ) (room : countOf from src ≤ leng
       let ys = map f xs in
       let same : length xs ≡ length ys = sym (length-map xs f) in
       let w = always-done conv xs ys f P e good same all ys refl in
-      row-gives from to src old room conv enc xs ys e many same agree (w .0) (w .1) q
+      row-gives from to src old conv enc xs ys e many same agree room (w .0) (w .1) q
 
 -- ---- the samples as a row
 

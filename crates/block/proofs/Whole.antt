@@ -21,7 +21,7 @@ use Rattle.sample.proofs.Joining.{count-joined, left-joined, samples-of-joined,
 use Rattle.block.specs.Output.{bytesFor}
 use Rattle.block.specs.Migrate.{outputOf, migrateOf, placedFrom, blockAnswer, stepSamples, stepAnswer}
 use Rattle.block.specs.Theorem.{Blocks, none, last, more, Reached, writtenBy, stepped, runOf, start, BlocksDecide}
-use Rattle.block.proofs.Blocks.{past-room, left-over, past-left}
+use Rattle.block.proofs.Blocks.{left-over, past-room}
 use Rattle.block.proofs.Joining.{answer-joined, answer-placed, output-joined}
 
 -- what a result was put together from
@@ -52,18 +52,18 @@ module _ (from to : Kind) (room : ℕ) where
     step-counted = ap counted sum-count ∙ mod-eq-of-lt (small from (p ++ b) short)
 
     module _ (fits : countOf from b ≤ room / bytesOf to) (ends : leftOf from b ≡ 0) where
-      placed : placedFrom (r .samples) (blockAnswer from to b room) ≡ rowAnswer (bitsTo to) (0 + length (samplesOf from p)) (samplesOf from b)
+      placed : placedFrom (r .samples) (blockAnswer from to b) ≡ rowAnswer (bitsTo to) (0 + length (samplesOf from p)) (samplesOf from b)
+      unfolding blockAnswer
       placed =
           let n : r .samples + 0 ≡ 0 + length (samplesOf from p) =
           add-zero (r .samples) ∙ st .count ∙ sym (zero-add (length (samplesOf from p)) ∙ length-samples from (countOf from p) p) in
           let few : r .samples + 0 + length (samplesOf from b) < 2 ^ 64 =
           rw (add-zero (r .samples), length-samples from (countOf from b) b, sum-count) (small from (p ++ b) short) in
-          ap (placedFrom (r .samples)) (past-room from to b room fits)
-          ∙ sym (answer-placed (bitsTo to) (r .samples) 0 (samplesOf from b) few)
+          sym (answer-placed (bitsTo to) (r .samples) 0 (samplesOf from b) few)
           ∙ ap (λ (k : ℕ). rowAnswer (bitsTo to) k (samplesOf from b)) n
 
-      step-parts : stepAnswer from to (r .samples) (r .answer) b room ≡ andThen (r .answer) (λ d. placedFrom (r .samples) (blockAnswer from to b room))
-      step-parts = past-left from to (r .samples) (r .answer) b room ends
+      step-parts : stepAnswer from to (r .samples) (r .answer) b room ≡ andThen (r .answer) (λ d. placedFrom (r .samples) (blockAnswer from to b))
+      step-parts = past-room from to (r .samples) (r .answer) b room ends fits
 
       step-decided : stepAnswer from to (r .samples) (r .answer) b room ≡ rowAnswer (bitsTo to) 0 (samplesOf from (p ++ b))
       step-decided =
@@ -76,7 +76,7 @@ module _ (from to : Kind) (room : ℕ) where
       step-laid : stepAnswer from to (r .samples) (r .answer) b room ≡ gives done
           → r .output ++ writtenBy (stepAnswer from to (r .samples) (r .answer) b room) (outputOf from to b) ≡ outputOf from to (p ++ b)
       step-laid h =
-          let before = given-before (r .answer) (λ d. placedFrom (r .samples) (blockAnswer from to b room)) (sym step-parts ∙ h) in
+          let before = given-before (r .answer) (λ d. placedFrom (r .samples) (blockAnswer from to b)) (sym step-parts ∙ h) in
           ap (λ o. r .output ++ writtenBy o (outputOf from to b)) h
           ∙ ap (λ (l : List ℕ). l ++ outputOf from to b) (st .laid before)
           ∙ sym (output-joined from to p b (st .whole))
@@ -95,7 +95,7 @@ module _ (from to : Kind) (room : ℕ) where
     step-left h =
         let left : leftOf from (p ++ b) ≡ 0 → ⊥ = λ q. h (sym (left-joined from p b (st .whole)) ∙ q) in
         let o : stepAnswer from to (r .samples) (r .answer) b room ≡ refuses 9 (countOf from (p ++ b)) =
-        sym (left-over from to (r .samples) (r .answer) b room h) ∙ ap (refuses 9) step-counted in (
+        left-over from to (r .samples) (r .answer) b room h ∙ ap (refuses 9) step-counted in (
           step-counted,
           ap (mapped (λ d. stepped from to room r b .output)) o
               ∙ sym (ap (λ (t : Bool). mapped (λ d. outputOf from to (p ++ b))

@@ -8,7 +8,6 @@ use Rattle.value.specs.Outcome.{Outcome, gives, refuses, lentAfter}
 use Rattle.row.specs.Inner.{asF32}
 use Rattle.sample.specs.Refusals.{bitsTo}
 use mathlib.Core.List.{List}
-use lib.ListN.{length}
 use Rattle.block.specs.Migrate.{blockAnswer, outputOf}
 
 -- the bits of a result
@@ -32,4 +31,4 @@ floatedBits n = plainBits (asF32 n)
 
 -- the lent buffer after the block alone
 unfoldable pub blockExit : Kind → Kind → List ℕ → List ℕ → List ℕ
-blockExit from to src old = lentAfter (λ d. outputOf from to src) (blockAnswer from to src (length old)) old
+blockExit from to src old = lentAfter (λ d. outputOf from to src) (blockAnswer from to src) old

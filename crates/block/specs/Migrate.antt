@@ -32,14 +32,6 @@ abbrev pub placedFrom : ℕ → Outcome Success → Outcome Success
 placedFrom before (gives d) = gives d
 placedFrom before (refuses number place) = refuses number (counted (before + place))
 
--- a lent buffer without room for the samples of the block is 9
-abbrev pub blockRules : Kind → Kind → List ℕ → ℕ → List Rule
-blockRules from to src room = rule 9 0 (ltb (room / bytesOf to) (countOf from src)) ∷ []
-
--- the block alone: then the first sample that is refused decides
-unfoldable pub blockAnswer : Kind → Kind → List ℕ → ℕ → Outcome Success
-blockAnswer from to src room = chain (blockRules from to src room) (rowAnswer (bitsTo to) 0 (samplesOf from src))
-
 -- after `before` samples, which were answered with `answer`: the samples up to the end of the block
 unfoldable pub stepSamples : Kind → ℕ → List ℕ → ℕ
 stepSamples from before src = counted (before + countOf from src)
@@ -48,10 +40,18 @@ stepSamples from before src = counted (before + countOf from src)
 abbrev pub stepRules : Kind → ℕ → List ℕ → List Rule
 stepRules from before src = rule 9 (stepSamples from before src) (not (eqb (leftOf from src) 0)) ∷ []
 
--- else an earlier refusal stays, and without one the block decides
+-- a lent buffer without room for the samples of the block is 9, at 0
+abbrev pub roomRules : Kind → Kind → List ℕ → ℕ → List Rule
+roomRules from to src room = rule 9 0 (ltb (room / bytesOf to) (countOf from src)) ∷ []
+
+-- the block alone: the first sample that is refused decides
+unfoldable pub blockAnswer : Kind → Kind → List ℕ → Outcome Success
+blockAnswer from to src = rowAnswer (bitsTo to) 0 (samplesOf from src)
+
+-- bytes left over decide; else an earlier refusal stays; without one the room decides, and then the samples
 unfoldable pub stepAnswer : Kind → Kind → ℕ → Outcome Success → List ℕ → ℕ → Outcome Success
 stepAnswer from to before answer src room =
-    chain (stepRules from before src) (andThen answer (λ d. placedFrom before (blockAnswer from to src room)))
+    chain (stepRules from before src) (andThen answer (λ d. chain (roomRules from to src room) (placedFrom before (blockAnswer from to src))))
 
 -- the lent buffer at the end
 unfoldable pub stepExit : Kind → Kind → ℕ → Outcome Success → List ℕ → List ℕ → List ℕ

@@ -61,7 +61,7 @@ fn widen_rows(src: &[u8], wide: &mut [u16], dst: &mut [u8])
 
 pub(crate) fn widened(src: &[u8], dst: &mut [u8]) -> Rowed
     requires { ⌜ countOf Kind.U8 (now src) ≤ length (now dst) / bytesOf Kind.U16 ⌝ }
-    ensures answer { λ r. ⌜ rowedOutcome r ≡ blockAnswer Kind.U8 Kind.U16 (now (src .entry)) (length (now (dst .entry))) ⌝ }
+    ensures answer { λ r. ⌜ rowedOutcome r ≡ blockAnswer Kind.U8 Kind.U16 (now (src .entry)) ⌝ }
     ensures exit { λ _. ⌜ now (dst .exit) ≡ blockExit Kind.U8 Kind.U16 (now (src .entry)) (now (dst .entry)) ⌝ }
 {
     let mut wide = [0u16; 16];
@@ -113,7 +113,7 @@ fn float_rows(src: &[u8], samples: usize, wide: &mut [u16], reals: &mut [f32], d
 
 pub(crate) fn floated(src: &[u8], n: usize, dst: &mut [u8]) -> Rowed
     requires { ⌜ (n ≡ countOf Kind.U16 (now src)) × (n ≤ length (now dst) / bytesOf Kind.F32) ⌝ }
-    ensures answer { λ r. ⌜ rowedOutcome r ≡ blockAnswer Kind.U16 Kind.F32 (now (src .entry)) (length (now (dst .entry))) ⌝ }
+    ensures answer { λ r. ⌜ rowedOutcome r ≡ blockAnswer Kind.U16 Kind.F32 (now (src .entry)) ⌝ }
     ensures exit { λ _. ⌜ now (dst .exit) ≡ blockExit Kind.U16 Kind.F32 (now (src .entry)) (now (dst .entry)) ⌝ }
 {
     let mut wide = [0u16; 16];
@@ -125,7 +125,7 @@ pub(crate) fn floated(src: &[u8], n: usize, dst: &mut [u8]) -> Rowed
 // u16 to u8: the front of the buffer is the second row.
 fn narrow_row(src: &[u8], wide: &mut [u16], dst: &mut [u8]) -> Rowed
     requires { ⌜ (length (now wide) ≡ countOf Kind.U16 (now src)) × (length (now wide) ≤ length (now dst)) ⌝ }
-    ensures answer { λ r. ⌜ rowedOutcome r ≡ blockAnswer Kind.U16 Kind.U8 (now (src .entry)) (length (now (dst .entry))) ⌝ }
+    ensures answer { λ r. ⌜ rowedOutcome r ≡ blockAnswer Kind.U16 Kind.U8 (now (src .entry)) ⌝ }
     ensures exit { λ _. ⌜ now (dst .exit) ≡ blockExit Kind.U16 Kind.U8 (now (src .entry)) (now (dst .entry)) ⌝ }
 {
     load_u16s(src, wide);
@@ -134,7 +134,7 @@ fn narrow_row(src: &[u8], wide: &mut [u16], dst: &mut [u8]) -> Rowed
 
 pub(crate) fn narrowed(src: &[u8], n: usize, dst: &mut [u8]) -> Rowed
     requires { ⌜ (n ≡ countOf Kind.U16 (now src)) × (n ≤ length (now dst) / bytesOf Kind.U8) × (n ≤ rowPlaces) ⌝ }
-    ensures answer { λ r. ⌜ rowedOutcome r ≡ blockAnswer Kind.U16 Kind.U8 (now (src .entry)) (length (now (dst .entry))) ⌝ }
+    ensures answer { λ r. ⌜ rowedOutcome r ≡ blockAnswer Kind.U16 Kind.U8 (now (src .entry)) ⌝ }
     ensures exit { λ _. ⌜ now (dst .exit) ≡ blockExit Kind.U16 Kind.U8 (now (src .entry)) (now (dst .entry)) ⌝ }
 {
     let mut wide = [0u16; ROW_PLACES];
@@ -145,7 +145,7 @@ pub(crate) fn narrowed(src: &[u8], n: usize, dst: &mut [u8]) -> Rowed
 fn whole_row(src: &[u8], reals: &mut [f32], wide: &mut [u16], dst: &mut [u8]) -> Rowed
     requires { ⌜ (length (now reals) ≡ countOf Kind.F32 (now src)) × (length (now reals) ≡ length (now wide))
         × (length (now reals) ≤ length (now dst) / bytesOf Kind.U16) ⌝ }
-    ensures answer { λ r. ⌜ rowedOutcome r ≡ blockAnswer Kind.F32 Kind.U16 (now (src .entry)) (length (now (dst .entry))) ⌝ }
+    ensures answer { λ r. ⌜ rowedOutcome r ≡ blockAnswer Kind.F32 Kind.U16 (now (src .entry)) ⌝ }
     ensures exit { λ _. ⌜ now (dst .exit) ≡ blockExit Kind.F32 Kind.U16 (now (src .entry)) (now (dst .entry)) ⌝ }
 {
     load_f32s(src, reals);
@@ -161,7 +161,7 @@ fn whole_row(src: &[u8], reals: &mut [f32], wide: &mut [u16], dst: &mut [u8]) ->
 
 pub(crate) fn made_whole(src: &[u8], n: usize, dst: &mut [u8]) -> Rowed
     requires { ⌜ (n ≡ countOf Kind.F32 (now src)) × (n ≤ length (now dst) / bytesOf Kind.U16) × (n ≤ rowPlaces) ⌝ }
-    ensures answer { λ r. ⌜ rowedOutcome r ≡ blockAnswer Kind.F32 Kind.U16 (now (src .entry)) (length (now (dst .entry))) ⌝ }
+    ensures answer { λ r. ⌜ rowedOutcome r ≡ blockAnswer Kind.F32 Kind.U16 (now (src .entry)) ⌝ }
     ensures exit { λ _. ⌜ now (dst .exit) ≡ blockExit Kind.F32 Kind.U16 (now (src .entry)) (now (dst .entry)) ⌝ }
 {
     let mut reals = [0.0f32; ROW_PLACES];

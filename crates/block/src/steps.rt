@@ -2,10 +2,11 @@
 ghost use mathlib.Core.Path.{_≡_};
 ghost use Prim.Native.Nat.{_/_, _≤_};
 ghost use lib.ListN.{length};
+ghost use Rattle.value.specs.Outcome.{gives, done};
 ghost use Rattle.row.specs.Row.{rowedOutcome};
 ghost use Rattle.value.specs.Kinds.{bytesOf};
-ghost use Rattle.sample.specs.Samples.{countOf};
-ghost use Rattle.block.specs.Migrate.{placedFrom, blockAnswer, StepTaken};
+ghost use Rattle.sample.specs.Samples.{countOf, leftOf};
+ghost use Rattle.block.specs.Migrate.{placedFrom, blockAnswer, stepAnswer, stepExit, StepTaken};
 ghost use Rattle.block.specs.Inner.{blockExit};
 use crate::Progress;
 use crate::ROW_PLACES;
@@ -33,7 +34,7 @@ fn refused(number: u8, place: usize) -> Rowed
 // The samples one by one: the buffer, which has room for them, is written whole, or left as it was.
 fn one_by_one(from: Kind, to: Kind, src: &[u8], n: usize, dst: &mut [u8]) -> Rowed
     requires { ⌜ (n ≡ countOf from (now src)) × (n ≤ length (now dst) / bytesOf to) ⌝ }
-    ensures answer { λ r. ⌜ rowedOutcome r ≡ blockAnswer from to (now (src .entry)) (length (now (dst .entry))) ⌝ }
+    ensures answer { λ r. ⌜ rowedOutcome r ≡ blockAnswer from to (now (src .entry)) ⌝ }
     ensures exit { λ _. ⌜ now (dst .exit) ≡ blockExit from to (now (src .entry)) (now (dst .entry)) ⌝ }
 {
     let i = first_refused(from, to, src, n);
@@ -47,7 +48,7 @@ fn one_by_one(from: Kind, to: Kind, src: &[u8], n: usize, dst: &mut [u8]) -> Row
 // The pairs that have rows go through the row calls, the others sample by sample.
 fn by_pair(from: Kind, to: Kind, src: &[u8], n: usize, dst: &mut [u8]) -> Rowed
     requires { ⌜ (n ≡ countOf from (now src)) × (n ≤ length (now dst) / bytesOf to) ⌝ }
-    ensures answer { λ r. ⌜ rowedOutcome r ≡ blockAnswer from to (now (src .entry)) (length (now (dst .entry))) ⌝ }
+    ensures answer { λ r. ⌜ rowedOutcome r ≡ blockAnswer from to (now (src .entry)) ⌝ }
     ensures exit { λ _. ⌜ now (dst .exit) ≡ blockExit from to (now (src .entry)) (now (dst .entry)) ⌝ }
 {
     match from {
@@ -76,18 +77,6 @@ fn by_pair(from: Kind, to: Kind, src: &[u8], n: usize, dst: &mut [u8]) -> Rowed
     }
 }
 
-// The block alone.
-fn block(from: Kind, to: Kind, src: &[u8], dst: &mut [u8]) -> Rowed
-    ensures answer { λ r. ⌜ rowedOutcome r ≡ blockAnswer from to (now (src .entry)) (length (now (dst .entry))) ⌝ }
-    ensures exit { λ _. ⌜ now (dst .exit) ≡ blockExit from to (now (src .entry)) (now (dst .entry)) ⌝ }
-{
-    let n = count(from, src);
-    if dst.len() / bytes_of(to) < n {
-        return refused(9, 0);
-    }
-    by_pair(from, to, src, n, dst)
-}
-
 // A place in the block as a place in the whole.
 fn placed(samples: usize, r: Rowed) -> Rowed
     ensures { λ p. ⌜ rowedOutcome p ≡ placedFrom samples (rowedOutcome r) ⌝ }
@@ -96,6 +85,19 @@ fn placed(samples: usize, r: Rowed) -> Rowed
         Rowed::Done => Rowed::Done,
         Rowed::Refused(f) => refused(f.number, wrapping_add_usize(samples, f.place)),
     }
+}
+
+// A block of whole samples behind samples that were accepted. A buffer without room is about no sample, so it has the place 0.
+fn block(samples: usize, from: Kind, to: Kind, src: &[u8], dst: &mut [u8]) -> Rowed
+    requires { ⌜ leftOf from (now src) ≡ 0 ⌝ }
+    ensures answer { λ r. ⌜ rowedOutcome r ≡ stepAnswer from to samples (gives done) (now (src .entry)) (length (now (dst .entry))) ⌝ }
+    ensures exit { λ _. ⌜ now (dst .exit) ≡ stepExit from to samples (gives done) (now (src .entry)) (now (dst .entry)) ⌝ }
+{
+    let n = count(from, src);
+    if dst.len() / bytes_of(to) < n {
+        return refused(9, 0);
+    }
+    placed(samples, by_pair(from, to, src, n, dst))
 }
 
 // After a refusal the samples are only counted.
@@ -114,7 +116,7 @@ pub fn convert_block(s: Progress, from: Kind, to: Kind, src: &[u8], dst: &mut [u
     match answer {
         Rowed::Done => Progress {
             samples,
-            answer: placed(s.samples, block(from, to, src, dst)),
+            answer: block(s.samples, from, to, src, dst),
         },
         Rowed::Refused(_) => Progress { samples, answer },
     }

@@ -2,6 +2,7 @@ pub mod Lengths
 pub mod Demand1
 pub mod Numbers
 pub mod Boundary
+pub mod Blocks
 pub mod Floats
 pub mod Widening
 pub mod Conversion

@@ -7,6 +7,8 @@ pub mod Demand1
 pub mod Lengths
 -- the same at the boundary, and for a whole input
 pub mod Boundary
+-- the same for a block of a migration
+pub mod Blocks
 -- the sentences of demand 2
 pub mod Demand2
 -- classes, comparison and total order

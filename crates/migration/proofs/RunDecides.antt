@@ -6,7 +6,7 @@ use mathlib.Core.Bool.{Bool, true, false, not}
 use mathlib.Core.List.{List, [], _∷_, _++_, append-assoc, append-nil}
 use mathlib.Core.Path.{_≡_, refl, sym, _∙_, ap, subst}
 use borrow.Author.Tests.{eqb-true}
-use lib.Dec.{eqb}
+use lib.Dec.{eqb, ltb}
 use lib.ListN.{length, take, drop, length-append}
 use lib.Seq.{take-at}
 use Rattle.float.proofs.Tests.{clash}
@@ -22,7 +22,6 @@ use Rattle.sample.proofs.Joining.{left-joined}
 use Rattle.block.specs.Migrate.{outputOf, migrateOf, placedFrom, blockAnswer, stepSamples, stepAnswer, stepExit}
 use Rattle.block.specs.Theorem.{Blocks, none, last, more, Reached, writtenBy, stepped, runOf, start}
 use Rattle.block.proofs.Samplings.{length-bytes}
-use Rattle.block.proofs.Blocks.{past-room}
 use Rattle.block.proofs.Rowing.{results-length}
 use Rattle.block.proofs.Whole.{blocks-decide}
 use Rattle.look.specs.declared.Seen.{Seen}
@@ -56,11 +55,13 @@ ends-whole from to block left turns fault q h =
     ap (λ (n : ℕ). n % bytesOf from) (eqb-true _ _ full) ∙ block-room from to .0
 
 -- what a step's answer was put together from
-given-inside : (t : Bool) (n p : ℕ) (o x : Outcome Success) → refuseIf t 9 p (andThen o (λ d. placedFrom n x)) ≡ gives done → x ≡ gives done
-given-inside false n p (gives done) (gives done) h = refl
-given-inside false n p (gives done) (refuses m q) h = clash cc
-given-inside false n p (refuses m q) x h = clash cc
-given-inside true n p o x h = clash cc
+given-inside : (t u : Bool) (n p : ℕ) (o x : Outcome Success)
+    → refuseIf t 9 p (andThen o (λ d. refuseIf u 9 0 (placedFrom n x))) ≡ gives done → x ≡ gives done
+given-inside false false n p (gives done) (gives done) h = refl
+given-inside false false n p (gives done) (refuses m q) h = clash cc
+given-inside false true n p (gives done) x h = clash cc
+given-inside false u n p (refuses m q) x h = clash cc
+given-inside true u n p o x h = clash cc
 
 -- the front of the buffer is the output
 front : (o : Outcome Success) (output old : List ℕ) (k : ℕ) → (o ≡ gives done → length output ≡ k)
@@ -73,23 +74,21 @@ same-reached : {n m : ℕ} {a b : Outcome Success} {x y : List ℕ} → n ≡ m 
 same-reached p q r = rw (p, q, r) refl
 
 module _ (from to : Kind) where
-  module _ (block : List ℕ) (small : length block ≤ blockBytes from to) where
-    fits : countOf from block ≤ bufferBytes / bytesOf to
-    fits = le-div-iff-mul-le (bytes-range to .0) .1
-        (fewer-room (length block) (blockBytes from to) (bytesOf from) (bytesOf to) (bytes-range from .0) small (block-room from to .1))
+  fits : (block : List ℕ) → length block ≤ blockBytes from to → countOf from block ≤ bufferBytes / bytesOf to
+  fits block small = le-div-iff-mul-le (bytes-range to .0) .1
+      (fewer-room (length block) (blockBytes from to) (bytesOf from) (bytesOf to) (bytes-range from .0) small (block-room from to .1))
 
-    output-length : (n : ℕ) (o : Outcome Success) → stepAnswer from to n o block bufferBytes ≡ gives done
-        → length (outputOf from to block) ≡ countOf from block * bytesOf to
-    unfolding stepAnswer outputOf
-    output-length n o h =
-        let inside : blockAnswer from to block bufferBytes ≡ gives done =
-        given-inside (not (eqb (leftOf from block) 0)) n (stepSamples from n block) o (blockAnswer from to block bufferBytes) h in
-        let given : rowAnswer (bitsTo to) 0 (samplesOf from block) ≡ gives done = sym (past-room from to block bufferBytes fits) ∙ inside in
-        length-bytes to (rowResults (bitsTo to) (samplesOf from block))
-        ∙ ap (λ (m : ℕ). m * bytesOf to) (results-length (bitsTo to) 0 (samplesOf from block) given ∙ length-samples from (countOf from block) block)
+  output-length : (block : List ℕ) (n room : ℕ) (o : Outcome Success) → stepAnswer from to n o block room ≡ gives done
+      → length (outputOf from to block) ≡ countOf from block * bytesOf to
+  unfolding stepAnswer blockAnswer outputOf
+  output-length block n room o h =
+      let given : rowAnswer (bitsTo to) 0 (samplesOf from block) ≡ gives done =
+      given-inside (not (eqb (leftOf from block) 0)) (ltb (room / bytesOf to) (countOf from block)) n (stepSamples from n block) o _ h in
+      length-bytes to (rowResults (bitsTo to) (samplesOf from block))
+      ∙ ap (λ (m : ℕ). m * bytesOf to) (results-length (bitsTo to) 0 (samplesOf from block) given ∙ length-samples from (countOf from block) block)
 
   -- the step of a block, as the turn took it
-  module _ (s next : State) (block old out : List ℕ) (small : length block ≤ blockBytes from to) (moved : MovedOn from to s block old out next) where
+  module _ (s next : State) (block old out : List ℕ) (moved : MovedOn from to s block old out next) where
     abbrev answered : Outcome Success
     answered = stepAnswer from to (s .progress .samples) (rowedOutcome (s .progress .answer)) block bufferBytes
 
@@ -105,7 +104,7 @@ module _ (from to : Kind) where
     output : writtenBy answered (outputOf from to block) ≡ handed from to block out (next .progress .answer)
     output =
         front answered (outputOf from to block) old (countOf from block * bytesOf to)
-        (output-length block small (s .progress .samples) (rowedOutcome (s .progress .answer)))
+        (output-length block (s .progress .samples) bufferBytes (rowedOutcome (s .progress .answer)))
         ∙ ap (λ (l : List ℕ). writtenBy answered (take (countOf from block * bytesOf to) l)) (sym left-in)
         ∙ ap (λ (o : Outcome Success). writtenBy o (take (countOf from block * bytesOf to) out)) answer
 
@@ -117,8 +116,8 @@ module _ (from to : Kind) where
 
   step-stands : (m next : Moving) (b : List ℕ) → MovesBlock from to m b next → stepped from to bufferBytes (standing m) b ≡ standing next
   step-stands m next b (small, old, out, moved, behind) =
-      same-reached (sym (moved .1 .0)) (answer (m .state) (next .state) b old out small moved)
-      (ap (λ (l : List ℕ). m .written ++ l) (output (m .state) (next .state) b old out small moved) ∙ sym behind)
+      same-reached (sym (moved .1 .0)) (answer (m .state) (next .state) b old out moved)
+      (ap (λ (l : List ℕ). m .written ++ l) (output (m .state) (next .state) b old out moved) ∙ sym behind)
 
   fail-stands : (m next : Moving) → MoveFails m next → standing m ≡ standing next
   fail-stands m next (failed, same) = same-reached (ap (λ p. p .samples) (sym (failed .0))) (ap (λ p. rowedOutcome (p .answer)) (sym (failed .0))) (sym same)

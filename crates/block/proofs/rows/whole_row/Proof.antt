@@ -21,8 +21,8 @@ returns c =
     let a = s .args in
     let x = loaded .load-f32s .last .1 .0 in
     let w = f32-row-agrees (a .src .now) (λ i. known .shared-slice-known .given i .fits) x (s .pre .0) (loaded .load-f32s .ensures) in
-    row-gives kind.F32 kind.U16 (a .src .now) (a .dst .now) (rw (← s .pre .0) (s .pre .2)) f32ToU16 (λ n. n) x (a .wide .now)
-    (ofBits binary32 0) (w .0) (w .0 ∙ sym (s .pre .0) ∙ s .pre .1) (w .1)
+    row-gives kind.F32 kind.U16 (a .src .now) (a .dst .now) f32ToU16 (λ n. n) x (a .wide .now)
+    (ofBits binary32 0) (w .0) (w .0 ∙ sym (s .pre .0) ∙ s .pre .1) (w .1) (rw (← s .pre .0) (s .pre .2))
     (sym (ap rowedOutcome (told .enum-told .given .1)) ∙ rowed .f32-to-u16 .ensures .0) (rowed .f32-to-u16 .ensures .1) (stored .store-u16s .ensures)
 
 returns-2 : tie.Need-returns-2
@@ -34,7 +34,7 @@ returns-2 c =
     let a = s .args in
     let x = loaded .load-f32s .last .1 .0 in
     let w = f32-row-agrees (a .src .now) (λ i. known .shared-slice-known .given i .fits) x (s .pre .0) (loaded .load-f32s .ensures) in
-    let r = row-refuses kind.F32 kind.U16 (a .src .now) (a .dst .now) (rw (← s .pre .0) (s .pre .2)) f32ToU16 (λ n. n) x
+    let r = row-refuses kind.F32 kind.U16 (a .src .now) (a .dst .now) f32ToU16 (λ n. n) x
     (a .wide .now) (ofBits binary32 0) (w .0) (w .0 ∙ sym (s .pre .0) ∙ s .pre .1) (w .1)
     (sym (ap rowedOutcome (c .enum-told2 .given .1)) ∙ rowed .f32-to-u16 .ensures .0) in
     (ap rowedOutcome (c .enum-told2 .given .1) ∙ r .0, r .1)

@@ -18,7 +18,7 @@ returns c =
     let s = found .before .before .before in
     let a = s .args in
     let number = numbered .number-of .ensures ∙ ap (λ (v : Value). refusalNumber (bitsTo (a .to) v)) (sampled .sample-at .ensures) in
-    let r = block-bad (a .from) (a .to) (a .src .now) (a .dst .now) (rw (← s .pre .0) (s .pre .1)) (found .first-refused .result)
+    let r = block-bad (a .from) (a .to) (a .src .now) (a .dst .now) (found .first-refused .result)
     (found .first-refused .ensures) (rw (← s .pre .0) (then .if1 .taken)) number in
     (ap rowedOutcome (c .refused .ensures) ∙ r .0, r .1)
 
@@ -34,8 +34,8 @@ returns-2 c =
     let found = passed .before in
     let s = found .before .before .before in
     let a = s .args in
-    block-done (a .from) (a .to) (a .src .now) (a .dst .now) (rw (← s .pre .0) (s .pre .1)) (found .first-refused .result)
-    (found .first-refused .ensures) (rw (← s .pre .0) (passed .if1 .left)) (wrote .write-samples .ensures)
+    block-done (a .from) (a .to) (a .src .now) (a .dst .now) (found .first-refused .result)
+    (found .first-refused .ensures) (rw (← s .pre .0) (s .pre .1)) (rw (← s .pre .0) (passed .if1 .left)) (wrote .write-samples .ensures)
 
 pub one-by-one-spec : {M : Type 1} → statement M
 one-by-one-spec =
