@@ -22,7 +22,7 @@ use Rattle.sample.specs.Samples.{countOf, leftOf, samplesOf, sampleAt}
 use Rattle.sample.specs.Refusals.{bitsTo, isRefused, refusalNumber, refusedTo}
 use Rattle.sample.proofs.Samplings.{length-samples}
 use Rattle.block.specs.Output.{bytesFor}
-use Rattle.block.specs.Migrate.{outputOf, placedFrom, stepSamples, roomRules, blockAnswer, stepAnswer, stepExit}
+use Rattle.block.specs.Migrate.{outputOf, placedFrom, stepSamples, bufferRules, blockAnswer, stepAnswer, stepExit}
 use Rattle.block.specs.Inner.{blockExit, givenBits, movedBits}
 use Rattle.block.proofs.Samplings.{room-inside, length-bytes}
 
@@ -109,7 +109,7 @@ module _ (from to : Kind) (before : ℕ) (answer : Outcome Success) (src : List 
   left-over h = rw (ne-eqb (leftOf from src) 0 h) refl
 
   past-left : leftOf from src ≡ 0
-      → stepAnswer from to before answer src room ≡ andThen answer (λ d. chain (roomRules from to src room) (placedFrom before (blockAnswer from to src)))
+      → stepAnswer from to before answer src room ≡ andThen answer (λ d. chain (bufferRules from to src room) (placedFrom before (blockAnswer from to src)))
   unfolding stepAnswer
   past-left none = rw (eq-eqb (leftOf from src) 0 none) refl
 

@@ -41,8 +41,8 @@ abbrev pub stepRules : Kind → ℕ → List ℕ → List Rule
 stepRules from before src = rule 9 (stepSamples from before src) (not (eqb (leftOf from src) 0)) ∷ []
 
 -- a lent buffer without room for the samples of the block is 9, at 0
-abbrev pub roomRules : Kind → Kind → List ℕ → ℕ → List Rule
-roomRules from to src room = rule 9 0 (ltb (room / bytesOf to) (countOf from src)) ∷ []
+abbrev pub bufferRules : Kind → Kind → List ℕ → ℕ → List Rule
+bufferRules from to src room = rule 9 0 (ltb (room / bytesOf to) (countOf from src)) ∷ []
 
 -- the block alone: the first sample that is refused decides
 unfoldable pub blockAnswer : Kind → Kind → List ℕ → Outcome Success
@@ -51,7 +51,7 @@ blockAnswer from to src = rowAnswer (bitsTo to) 0 (samplesOf from src)
 -- bytes left over decide; else an earlier refusal stays; without one the room decides, and then the samples
 unfoldable pub stepAnswer : Kind → Kind → ℕ → Outcome Success → List ℕ → ℕ → Outcome Success
 stepAnswer from to before answer src room =
-    chain (stepRules from before src) (andThen answer (λ d. chain (roomRules from to src room) (placedFrom before (blockAnswer from to src))))
+    chain (stepRules from before src) (andThen answer (λ d. chain (bufferRules from to src room) (placedFrom before (blockAnswer from to src))))
 
 -- the lent buffer at the end
 unfoldable pub stepExit : Kind → Kind → ℕ → Outcome Success → List ℕ → List ℕ → List ℕ

@@ -15,9 +15,9 @@ use Rattle.convert.specs.Convert.{convertRules, convertedTo}
 use Rattle.row.specs.Row.{sampleThen, rowAnswer}
 use Rattle.sample.specs.Samples.{samplesOf}
 use Rattle.sample.specs.Refusals.{bitsTo}
-use Rattle.block.specs.Migrate.{placedFrom, stepRules, roomRules, blockAnswer, stepAnswer, stepExit}
+use Rattle.block.specs.Migrate.{placedFrom, stepRules, bufferRules, blockAnswer, stepAnswer, stepExit}
 use Rattle.block.proofs.Blocks.{left-over, earlier-stays, no-room}
-use Rattle.demands.specs.Blocks.{placeCounted, samplesRules, blockRules, OfBlocks}
+use Rattle.demands.specs.Blocks.{placeCounted, convertEachRules, blockRules, OfBlocks}
 use Rattle.demands.proofs.Demand1.{through}
 
 -- ---- rows, their places moved on by n
@@ -43,17 +43,17 @@ module _ {A B : Type 0} (conv : A → Outcome B) (rules : A → List Rule) (resu
       ∙ ap (λ (rs : List Rule). chain rs (gives done)) (sym (map-append placeCounted own rest))
 
 samples-placed : (from to : Kind) (before : ℕ) (src : List ℕ)
-    → placedFrom before (blockAnswer from to src) ≡ chain (map placeCounted (samplesRules to before (samplesOf from src))) (gives done)
+    → placedFrom before (blockAnswer from to src) ≡ chain (map placeCounted (convertEachRules to before (samplesOf from src))) (gives done)
 unfolding blockAnswer bitsTo
 samples-placed from to before src =
     row-placed (bitsTo to) (λ v. convertRules v to) (λ v. bitsOf (convertedTo v to)) (λ v. through bitsOf v to) before 0 (samplesOf from src)
-    ∙ ap (λ (k : ℕ). chain (map placeCounted (samplesRules to k (samplesOf from src))) (gives done)) (add-zero before)
+    ∙ ap (λ (k : ℕ). chain (map placeCounted (convertEachRules to k (samplesOf from src))) (gives done)) (add-zero before)
 
 by-block : (from to : Kind) (before : ℕ) (src : List ℕ) (room : ℕ)
     → By (blockRules from to before src room) (stepAnswer from to before (gives done) src room)
 unfolding stepAnswer
 by-block from to before src room = by-same (blockRules from to before src room) done
-    (ap (λ o. chain (stepRules from before src) (chain (roomRules from to src room) o)) (samples-placed from to before src))
+    (ap (λ o. chain (stepRules from before src) (chain (bufferRules from to src room) o)) (samples-placed from to before src))
 
 -- ---- numbers
 
@@ -62,17 +62,11 @@ unfolding numbersOf
 numbers-counted [] = refl
 numbers-counted (rule n p holds ∷ rules) = ap (λ (l : List ℕ). n ∷ l) (numbers-counted rules)
 
-numbers-placed : (at : ℕ) (rules rest : List Rule) → numbersOf (map (placed at) rules ++ rest) ≡ numbersOf rules ++ numbersOf rest
-unfolding numbersOf
-numbers-placed at [] rest = refl
-numbers-placed at (rule n p holds ∷ rules) rest = ap (λ (l : List ℕ). n ∷ l) (numbers-placed at rules rest)
-
 pub of-blocks : OfBlocks
 unfolding stepExit numbersOf eachOf
 of-blocks = record {
   by-its-rules = by-block;
-  in-order = λ from to before src room. ap (λ (l : List ℕ). 9 ∷ 9 ∷ l) (numbers-counted (samplesRules to before (samplesOf from src)));
-  each-sample = λ to at v vs. numbers-placed at (convertRules v to) (samplesRules to (suc at) vs);
+  in-order = λ from to before src room. ap (λ (l : List ℕ). 9 ∷ 9 ∷ l) (numbers-counted (convertEachRules to before (samplesOf from src)));
   no-room = no-room;
   left-first = left-over;
   earlier-stays = λ from to before n p src room none. earlier-stays from to before src room none n p;

@@ -37,6 +37,7 @@ use Rattle.silamogo.specs.Records.{recordsOrder, keyLength, keyExit, recordRead
 use Rattle.sample.specs.Samples.{samplesOf}
 use Rattle.sample.specs.Refusals.{bitsTo, leftRules, answerOf}
 use Rattle.demands.specs.Boundary.{InBoundaryOrder, ByBoundaryRules, CountFirst, OwnTests, AllNumbered, NothingLost, AtTheBoundary}
+use Rattle.demands.proofs.Lengths.{bad-count}
 use Rattle.demands.proofs.Demand1.{row-chain, through, by-its-rules}
 use Rattle.silamogo.proofs.Determined.{answered-injective, ordered-injective, classed-injective, positioned-injective}
 use Rattle.silamogo.proofs.Determined.{sampled-injective, measured-injective}
@@ -92,21 +93,6 @@ count-first = record {
   read-key = λ ns key room h. rw h;
 }
 
-either : (a b : Bool) → (a || b) ≡ true → (a ≡ true) ⊎ (b ≡ true)
-either true b h = inl refl
-either false b h = inr h
-
-bad-count-means : (n : ℕ) → badCount n ≡ true → (n ≡ 0) ⊎ (12 < n)
-bad-count-means n h = elim (either (eqb n 0) (ltb 12 n) h) [ inl q ↦ inl (eqb-true n 0 q) | inr q ↦ inr (ltb-true 12 n q) ]
-
-means-bad-count : (n : ℕ) → (n ≡ 0) ⊎ (12 < n) → badCount n ≡ true
-means-bad-count n (inl q) = rw q
-means-bad-count n (inr q) = or-true (eqb n 0) (lt-ltb 12 n q)
-  where
-    or-true : (a : Bool) {b : Bool} → b ≡ true → (a || b) ≡ true
-    or-true true h = refl
-    or-true false h = h
-
 unnamed-in : (ks : List Kind) (n : ℕ) → isNothing (kindIn ks n) ≡ true → length ks ≤ n
 unnamed-in [] n h = omega arith
 unnamed-in (k ∷ ks) zero h = absurd (true≢false (sym h))
@@ -123,7 +109,7 @@ means-unnamed n h = rw (← past-all n h)
 own-tests : OwnTests
 unfolding tooWide
 own-tests = record {
-  bad-count = λ n. (bad-count-means n, means-bad-count n);
+  bad-count = bad-count;
   no-kind = λ n. (unnamed-means n, means-unnamed n);
   too-wide = λ s. (leb-true (2 ^ widthOf (kindFor (s .kind))) (s .bits), le-leb (2 ^ widthOf (kindFor (s .kind))) (s .bits));
 }

@@ -69,7 +69,7 @@ second-true : (a b : Bool) → b ≡ true → (a || b) ≡ true
 second-true true b h = refl
 second-true false b h = h
 
-bad-count : (n : ℕ) → (badCount n ≡ true) ↔ NoneOrMany n
+pub bad-count : (n : ℕ) → (badCount n ≡ true) ↔ NoneOrMany n
 bad-count n = (
   (λ h. elim (either-true (eqb n 0) (ltb 12 n) h) [
     | inl e ↦ inl (eqb-true n 0 e)

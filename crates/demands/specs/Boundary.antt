@@ -31,6 +31,7 @@ use Rattle.silamogo.specs.Records.{pairedSamples, recordFor, shapeFor, twoRecor
 use Rattle.silamogo.specs.Records.{recordRead, readExit, successOf}
 use Rattle.sample.specs.Samples.{samplesOf}
 use Rattle.sample.specs.Refusals.{leftRules, answerOf}
+use Rattle.demands.specs.Lengths.{NoneOrMany}
 
 -- ---- the rules
 
@@ -76,7 +77,7 @@ pub record CountFirst : Type 0 where
 
 -- its own tests in numbers: no kind has the number 10 or one above, and a kind of w bits has none from 2^w on
 pub record OwnTests : Type 0 where
-  pub bad-count : (n : ℕ) → (badCount n ≡ true) ↔ ((n ≡ 0) ⊎ (12 < n))
+  pub bad-count : (n : ℕ) → (badCount n ≡ true) ↔ NoneOrMany n
   pub no-kind : (n : ℕ) → (unnamed n ≡ true) ↔ (10 ≤ n)
   pub too-wide : (s : Sample) → (tooWide s ≡ true) ↔ (2 ^ widthOf (kindFor (s .kind)) ≤ s .bits)
 

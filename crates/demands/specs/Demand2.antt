@@ -3,6 +3,7 @@ use lib.Ieee.{Format}
 use Rattle.float.specs.Format.{fractionOf, exponentOf}
 use Rattle.demands.specs.Floats.{Floats, Values}
 use Rattle.demands.specs.Conversion.{Conversion}
+use Rattle.demands.specs.WhichRefusal.{WhichRefusal}
 use Rattle.demands.specs.Choosing.{Records, Choosing}
 use Rattle.demands.specs.Rows.{Rows}
 use Rattle.demands.specs.LentRows.{LentRows}
@@ -12,6 +13,7 @@ pub record Demand2 : Type 1 where
   pub floats : (f : Format) → Floats (fractionOf f) (exponentOf f)
   pub values : Values
   pub conversion : Conversion
+  pub which-refusal : WhichRefusal
   pub records : Records
   pub choosing : Choosing
   pub rows : Rows
