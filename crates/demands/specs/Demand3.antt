@@ -1,27 +1,55 @@
 -- Demand 3: the bytes of keys order as the records do, and a byte string is a key exactly when some record has it. RULES.md: Keys.
 use Prim.Native.Nat.{ℕ, _≤_, _<_}
 use mathlib.Core.Path.{_≡_}
+use mathlib.Core.Bool.{false}
 use mathlib.Core.Logic.{_↔_}
 use mathlib.Core.List.{List, _++_}
 use lib.ListN.{length, take, drop, getD}
+use Rattle.float.specs.declared.Order.{Order}
 use Rattle.float.specs.declared.Order.the-variants.{Equal}
 use Rattle.float.specs.Order.{orderN}
 use Rattle.value.specs.Outcome.{gives}
 use Rattle.record.specs.declared.Record.{Record}
 use Rattle.record.specs.declared.Shape.{Shape}
+use Rattle.record.specs.Record.{fieldsOf, badCount, kindsIn, kindsOf, shapeOf}
 use Rattle.lexical.specs.Lexical.{compareOf}
+use Rattle.laws_cmp.specs.Laws.{OneShape}
 use Rattle.key.specs.Key.{writeOf, writeExit, readOf}
 use Rattle.bytewise.specs.Numbers.{Bytes}
-use Rattle.key.specs.Keyed.{Usable, OfShape, recordKey, normalRecord}
+use Rattle.key.specs.Keyed.{NoNan, Usable, OfShape, recordKey, normalRecord}
+use Rattle.key.specs.Held.{HeldRecord, HeldShape, LentBytes}
 
--- two lists differ at i, and not before
+-- two lists differ at i, a place of both, and not before
 pub record DifferAt (i : ℕ) (k l : List ℕ) : Type 0 where
   pub inside : i < length k
+  pub inside-other : i < length l
   pub same-before : take i k ≡ take i l
   pub differ : getD k i 0 ≡ getD l i 0 → ⊥
 
+-- ---- what a program holds meets the premises of the demand: usable shapes, records of them, strings of bytes
+
+-- "no NaN" and "of one shape" are then all that is asked of two records
+pub record Held : Type 0 where
+  -- a shape of 1 to 12 fields is usable
+  pub usable : (s : Shape) → HeldShape s → badCount (s .count) ≡ false → Usable s
+  -- a record without NaN is of the shape that it has
+  pub own-shape : (r : Record) → HeldRecord r → NoNan r → (s : Shape) → shapeOf r ≡ gives s → Usable s × OfShape s r
+  -- and of every shape with its count and its kinds
+  pub of-shape : (r : Record) → HeldRecord r → NoNan r → (s : Shape) → r .count ≡ s .count → kindsOf (fieldsOf r) ≡ kindsIn s → OfShape s r
+  -- two records compare exactly when they are of one shape
+  pub compared : (a b : Record) → ((o : Order) × (compareOf a b ≡ gives o)) ↔ OneShape a b
+  -- which is that they have one shape
+  pub one-shape : (a b : Record) → OneShape a b ↔ ((s : Shape) × (shapeOf a ≡ gives s) × (shapeOf b ≡ gives s))
+  -- and that one is of every shape that the other is of
+  pub shared-shape : (s : Shape) → Usable s → (a b : Record) → OfShape s a → HeldRecord b → NoNan b → OneShape a b ↔ OfShape s b
+  -- what was lent as bytes is bytes
+  pub bytes : (l : List ℕ) → LentBytes l → Bytes l
+
+-- ---- the demand
+
 -- "For two records of one shape, no NaN, room for their keys"
 pub record Demand3 : Type 0 where
+  pub held : Held
   -- with room for its key a record is written, and the bytes past the key stay
   pub written : (s : Shape) → Usable s → (r : Record) → OfShape s r → (buffer : List ℕ) → length (recordKey r) ≤ length buffer
       → (writeOf r (length buffer) ≡ gives (length (recordKey r))) × (writeExit r buffer ≡ recordKey r ++ drop (length (recordKey r)) buffer)

@@ -43,7 +43,7 @@ positive : (n : ℕ) → (n ≡ 0 → ⊥) → 0 < n
 positive zero h = absurd (h refl)
 positive (suc n) h = omega arith
 
-count-good : (n : ℕ) → badCount n ≡ false → (0 < n) × (n ≤ 12)
+pub count-good : (n : ℕ) → badCount n ≡ false → (0 < n) × (n ≤ 12)
 count-good n h =
     let b = neither (eqb n 0) (ltb 12 n) h in
     (positive n (eqb-false n 0 (b .0)), ltb-false 12 n (b .1))
@@ -51,7 +51,7 @@ count-good n h =
 shape-length : (s : Shape) → Usable s → length (kindsIn s) ≡ s .count
 shape-length s u = length-map (take (s .count) (s .places)) (λ (p : Place). p .kind) ∙ length-take-le (s .count) (s .places) (omega (arith, u .few, u .places))
 
-record-count : (s : Shape) (r : Record) → Usable s → OfShape s r → badCount (r .count) ≡ false
+pub record-count : (s : Shape) (r : Record) → Usable s → OfShape s r → badCount (r .count) ≡ false
 record-count s r u h = ap badCount (h .count-is) ∙ good-count (s .count) (u .some) (u .few)
 
 -- the length of a key follows from the shape
