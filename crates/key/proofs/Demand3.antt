@@ -130,10 +130,10 @@ accepted s key r e =
     record { counts = count-good (s .count) (c .0); long = eqb-true _ _ (not-false _ (l .0)); fields = m .0; read = m .1; record-is = m .2 }
 
 -- the fields that count of the record that is made of some
-made-fields : (fs : List Field) → fieldsOf (recordOf fs) ≡ fs
+pub made-fields : (fs : List Field) → fieldsOf (recordOf fs) ≡ fs
 made-fields fs = take-at fs (replicate (12 - length fs) (fieldFor (U8 0))) (length fs) refl
 
-made-places : (fs : List Field) → length fs ≤ 12 → length (recordOf fs .fields) ≡ 12
+pub made-places : (fs : List Field) → length fs ≤ 12 → length (recordOf fs .fields) ≡ 12
 made-places fs h = length-append fs (replicate (12 - length fs) (fieldFor (U8 0))) ∙ rw (length-replicate (12 - length fs) (fieldFor (U8 0))) (omega arith)
 
 made-of-shape : (s : Shape) (key : List ℕ) (fs : List Field) → Usable s → FieldsFor (kindsIn s) key fs

@@ -4,13 +4,14 @@ use Prim.Native.Nat.{ℕ, zero, suc, _-_, _<_, _≤_}
 use mathlib.Core.Path.{_≡_, refl, sym, ap, _∙_, subst}
 use mathlib.Core.Logic.{_↔_}
 use mathlib.Core.Bool.{false}
-use mathlib.Core.List.{List, [], _∷_, map}
+use mathlib.Core.List.{List, [], _∷_, _++_, map}
 use native.Mathlib.Omega.{arith}
 use lib.ListN.{length, take, replicate, length-append, length-map, length-replicate}
-use lib.Seq.{take-at, length-take-le}
+use lib.Seq.{take-at, length-take-le, getD-take}
 use Rattle.float.specs.Number.{isNone}
 use Rattle.value.specs.declared.Kind.{Kind}
 use Rattle.value.specs.declared.Kind.the-variants as kind
+use Rattle.value.specs.declared.Value.the-variants.{U8}
 use Rattle.value.specs.Kinds.{kindOf}
 use Rattle.value.specs.Meaning.{contentOf, InRange, exactOf}
 use Rattle.value.specs.Outcome.{gives}
@@ -19,25 +20,35 @@ use Rattle.record.specs.declared.Field.{Field}
 use Rattle.record.specs.declared.Place.{Place}
 use Rattle.record.specs.declared.Record.{Record}
 use Rattle.record.specs.declared.Shape.{Shape}
-use Rattle.record.specs.Record.{fieldsOf, valueAt, placeFor, badCount, kindsIn, kindsOf, shapeFor, shapeOf}
+use Rattle.record.specs.Record.{fieldFor, fieldsOf, valueAt, placeFor, badCount, kindsIn, kindsOf, shapeFor, shapeOf, recordOf}
 use Rattle.record.proofs.Twelve.{good-count}
 use Rattle.record.proofs.Owned.{record-held, shape-held}
 use Rattle.bytewise.specs.Numbers.{Bytes}
 use Rattle.bytewise.specs.Numbers as numbers
-use Rattle.key.specs.Keyed.{AllKeyed, none, more, NoNan, Usable, OfShape}
+use Rattle.key.specs.Key.{readOf}
+use Rattle.key.specs.Keyed.{AllKeyed, none, more, normalFields, normalRecord, recordKey, NoNan, HasShape, Usable, OfShape}
 use Rattle.key.specs.Held.{HeldRecord, HeldShape, LentBytes}
-use Rattle.key.proofs.Demand3.{count-good}
+use Rattle.key.proofs.FieldLists.{key-bytes}
+use Rattle.key.proofs.Demand3.{count-good, read-of-written, made-fields, made-places as made-twelve, written-of-read}
 
 -- ---- bytes
 
-pub bytes-held : (l : List ℕ) → LentBytes l → Bytes l
-bytes-held [] h = numbers.none
-bytes-held (x ∷ xs) h = numbers.more x xs (h 0 .fits) (bytes-held xs (λ i. h (suc i)))
+lent-bytes : (l : List ℕ) → LentBytes l → Bytes l
+lent-bytes [] h = numbers.none
+lent-bytes (x ∷ xs) h = numbers.more x xs (h 0 .fits) (lent-bytes xs (λ i. h (suc i)))
+
+bytes-lent : {l : List ℕ} → Bytes l → LentBytes l
+bytes-lent numbers.none i = record { fits = omega arith }
+bytes-lent (numbers.more x xs h b) zero = record { fits = h }
+bytes-lent (numbers.more x xs h b) (suc i) = bytes-lent b i
+
+pub bytes-held : (l : List ℕ) → LentBytes l ↔ Bytes l
+bytes-held l = (lent-bytes l, bytes-lent)
 
 -- ---- shapes
 
 pub usable-held : (s : Shape) → HeldShape s → badCount (s .count) ≡ false → Usable s
-usable-held s h good = let c = count-good (s .count) good in record { some = c .0; few = c .1; places = shape-held s (h .0) (h .1) }
+usable-held s h good = let c = count-good (s .count) good in record { some = c .0; few = c .1; places = shape-held s .0 h .0 }
 
 -- the kinds of the shape that is made of some
 kinds-placed : (ks : List Kind) → map (λ (p : Place). p .kind) (map placeFor ks) ≡ ks
@@ -69,7 +80,7 @@ shape-told r s e =
 -- ---- records
 
 pub twelve-held : (r : Record) → HeldRecord r → length (r .fields) ≡ 12
-twelve-held r held = record-held r (held .0) (held .1) .0
+twelve-held r held = record-held r .0 held .0
 
 -- as many kinds as the count says
 kinds-count : (r : Record) → length (r .fields) ≡ 12 → badCount (r .count) ≡ false → length (kindsOf (fieldsOf r)) ≡ r .count
@@ -84,13 +95,13 @@ keyed-take (suc n) (f ∷ fs) h k = more f (take n fs) (record { in-range = h 0;
     (keyed-take n fs (λ at. h (suc at)) (λ at l. k (suc at) (omega arith)))
 
 module _ (r : Record) (held : HeldRecord r) (no-nan : NoNan r) where
-  -- of every shape with its count and its kinds
-  pub of-shape-held : (s : Shape) → r .count ≡ s .count → kindsOf (fieldsOf r) ≡ kindsIn s → OfShape s r
-  of-shape-held s count kinds = record {
+  -- of every shape that it has
+  pub of-shape-held : (s : Shape) → HasShape s r → OfShape s r
+  of-shape-held s has = record {
     places = twelve-held r held;
-    count-is = count;
-    kinds-are = kinds;
-    keyed = keyed-take (r .count) (r .fields) (record-held r (held .0) (held .1) .1) no-nan;
+    count-is = has .0;
+    kinds-are = has .1;
+    keyed = keyed-take (r .count) (r .fields) (record-held r .0 held .1) no-nan;
   }
 
   -- and so of its own
@@ -102,7 +113,7 @@ module _ (r : Record) (held : HeldRecord r) (no-nan : NoNan r) where
       let good = count-good (r .count) (given .0) in
       subst (λ (t : Shape). Usable t × OfShape t r) (given .1) (
         record { some = rw count (good .0); few = rw count (good .1); places = made-places ks (rw count (good .1)) },
-        of-shape-held (shapeFor ks) (sym count) (sym (made-kinds ks)),
+        of-shape-held (shapeFor ks) (sym count, sym (made-kinds ks)),
       )
 
 -- ---- two records of one shape
@@ -124,4 +135,44 @@ pub alike-held : (s : Shape) (a b : Record) → badCount (a .count) ≡ false �
     → OfShape s a → HeldRecord b → NoNan b → OfShape s b
 alike-held s a b p q same h held no-nan =
     let counts : b .count ≡ a .count = sym (kinds-count b (twelve-held b held) q) ∙ ap length (sym same) ∙ kinds-count a (h .places) p in
-    of-shape-held b held no-nan s (counts ∙ h .count-is) (sym same ∙ h .kinds-are)
+    of-shape-held b held no-nan s (counts ∙ h .count-is, sym same ∙ h .kinds-are)
+
+-- ---- what has a key can be held
+
+blank-places : (n at : ℕ) → InRange (contentOf (valueAt (replicate n (fieldFor (U8 0))) at))
+blank-places zero at = omega arith
+blank-places (suc n) zero = omega arith
+blank-places (suc n) (suc at) = blank-places n at
+
+keyed-places : (n : ℕ) {fs : List Field} → AllKeyed fs → (at : ℕ) → InRange (contentOf (valueAt (fs ++ replicate n (fieldFor (U8 0))) at))
+keyed-places n none at = blank-places n at
+keyed-places n (more f fs h a) zero = h .in-range
+keyed-places n (more f fs h a) (suc at) = keyed-places n a at
+
+pub keyed-held : (fs : List Field) → AllKeyed fs → length fs ≤ 12 → HeldRecord (recordOf fs)
+keyed-held fs a few = record-held (recordOf fs) .1 (made-twelve fs few, keyed-places (12 - length fs) a, omega arith)
+
+some-numbers : {fs : List Field} → AllKeyed fs → (at : ℕ) → isNone (exactOf (valueAt fs at)) ≡ false
+some-numbers none at = refl
+some-numbers (more f fs h a) zero = h .some-number
+some-numbers (more f fs h a) (suc at) = some-numbers a at
+
+pub of-shape-numbers : (s : Shape) (r : Record) → OfShape s r → NoNan r
+of-shape-numbers s r h at l =
+    ap (λ (f : Field). isNone (exactOf (f .value))) (sym (getD-take (r .count) (r .fields) at (fieldFor (U8 0)) l)) ∙ some-numbers (h .keyed) at
+
+-- what is read, too: it is a record made normal
+module _ (s : Shape) (u : Usable s) where
+  normal-held : (r : Record) → OfShape s r → HeldRecord (normalRecord r)
+  normal-held r h =
+      let fs = normalFields (fieldsOf r) in
+      let k = written-of-read s (u .places) (recordKey r) (key-bytes (fieldsOf r)) (normalRecord r) (read-of-written s u r h) .0 in
+      let few : length fs ≤ 12 = subst (λ (n : ℕ). n ≤ 12) (sym (k .count-is)) (u .few) in
+      keyed-held fs (subst AllKeyed (made-fields fs) (k .keyed)) few
+
+  pub read-held : (key : List ℕ) → Bytes key → (r : Record) → readOf s key ≡ gives r → HeldRecord r
+  read-held key b r e =
+      let w = written-of-read s (u .places) key b r e in
+      let q : gives (normalRecord r) ≡ gives r = sym (read-of-written s u r (w .0)) ∙ ap (readOf s) (w .1) ∙ e in
+      let is : normalRecord r ≡ r = cc in
+      subst HeldRecord is (normal-held r (w .0))

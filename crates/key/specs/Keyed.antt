@@ -66,6 +66,10 @@ recordKey r = keyOf (fieldsOf r)
 abbrev pub NoNan : Record → Type 0
 NoNan r = (at : ℕ) → at < r .count → isNone (exactOf (valueAt (r .fields) at)) ≡ false
 
+-- the count and the kinds of the shape
+abbrev pub HasShape : Shape → Record → Type 0
+HasShape s r = (r .count ≡ s .count) × (kindsOf (fieldsOf r) ≡ kindsIn s)
+
 -- a shape of 1 to 12 fields, in the twelve places that a program holds
 pub record Usable (s : Shape) : Type 0 where
   pub some : 0 < s .count
