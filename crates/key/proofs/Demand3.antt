@@ -43,7 +43,7 @@ positive : (n : ℕ) → (n ≡ 0 → ⊥) → 0 < n
 positive zero h = absurd (h refl)
 positive (suc n) h = omega arith
 
-count-good : (n : ℕ) → badCount n ≡ false → (0 < n) × (n ≤ 12)
+pub count-good : (n : ℕ) → badCount n ≡ false → (0 < n) × (n ≤ 12)
 count-good n h =
     let b = neither (eqb n 0) (ltb 12 n) h in
     (positive n (eqb-false n 0 (b .0)), ltb-false 12 n (b .1))
@@ -51,7 +51,7 @@ count-good n h =
 shape-length : (s : Shape) → Usable s → length (kindsIn s) ≡ s .count
 shape-length s u = length-map (take (s .count) (s .places)) (λ (p : Place). p .kind) ∙ length-take-le (s .count) (s .places) (omega (arith, u .few, u .places))
 
-record-count : (s : Shape) (r : Record) → Usable s → OfShape s r → badCount (r .count) ≡ false
+pub record-count : (s : Shape) (r : Record) → Usable s → OfShape s r → badCount (r .count) ≡ false
 record-count s r u h = ap badCount (h .count-is) ∙ good-count (s .count) (u .some) (u .few)
 
 -- the length of a key follows from the shape
@@ -130,10 +130,10 @@ accepted s key r e =
     record { counts = count-good (s .count) (c .0); long = eqb-true _ _ (not-false _ (l .0)); fields = m .0; read = m .1; record-is = m .2 }
 
 -- the fields that count of the record that is made of some
-made-fields : (fs : List Field) → fieldsOf (recordOf fs) ≡ fs
+pub made-fields : (fs : List Field) → fieldsOf (recordOf fs) ≡ fs
 made-fields fs = take-at fs (replicate (12 - length fs) (fieldFor (U8 0))) (length fs) refl
 
-made-places : (fs : List Field) → length fs ≤ 12 → length (recordOf fs .fields) ≡ 12
+pub made-places : (fs : List Field) → length fs ≤ 12 → length (recordOf fs .fields) ≡ 12
 made-places fs h = length-append fs (replicate (12 - length fs) (fieldFor (U8 0))) ∙ rw (length-replicate (12 - length fs) (fieldFor (U8 0))) (omega arith)
 
 made-of-shape : (s : Shape) (key : List ℕ) (fs : List Field) → Usable s → FieldsFor (kindsIn s) key fs

@@ -25,7 +25,6 @@ use Rattle.record.specs.declared.Recorded.{Recorded}
 use Rattle.record.specs.declared.Shape.{Shape}
 use Rattle.record.specs.Record.{fieldFor, blank, badCount, kindsIn, recordOf, recordedOf}
 use Rattle.record.proofs.Twelve.{good-count}
-use Rattle.record.proofs.Shape as shape-type
 use Rattle.key.specs.declared.Weights.{Weights}
 use Rattle.bytewise.specs.Numbers.{fromBigEndian}
 use Rattle.key.specs.Key.{bitsFrom, notCanonical, bytesIn, readOf}
@@ -33,9 +32,6 @@ use Rattle.key.specs.Inner.{weightsFor, bitsByWeights, foreignIn, readFi
 use Rattle.key.proofs.Passing.{mapped-gives, read-none, read-more, read-by}
 use Rattle.value.proofs.Widths.{kind-sized}
 use Rattle.key.proofs.KeyNumbers.{form-bits, form-foreign}
-
-pub twelve-places : (s : Shape) → length ((shape-type.the-type .to s) .0) ≡ 12 → length (s .places) ≡ 12
-twelve-places s h = simp length-map at h
 
 -- ---- a record that is filled from a place on
 

@@ -14,7 +14,7 @@ use Rattle.value.specs.Meaning.{Content, natural, integer, real, contentOf, InR
 use Rattle.record.specs.declared.Field.{Field}
 use Rattle.record.specs.declared.Record.{Record}
 use Rattle.record.specs.declared.Shape.{Shape}
-use Rattle.record.specs.Record.{fieldFor, fieldsOf, kindsIn, kindsOf, recordOf}
+use Rattle.record.specs.Record.{fieldFor, fieldsOf, valueAt, kindsIn, kindsOf, recordOf}
 use Rattle.key.specs.Key.{keyOf}
 
 -- in range and no NaN: the values that have a key
@@ -61,6 +61,14 @@ normalRecord r = recordOf (normalFields (fieldsOf r))
 -- the key of a record
 abbrev pub recordKey : Record → List ℕ
 recordKey r = keyOf (fieldsOf r)
+
+-- no field that counts is a NaN
+abbrev pub NoNan : Record → Type 0
+NoNan r = (at : ℕ) → at < r .count → isNone (exactOf (valueAt (r .fields) at)) ≡ false
+
+-- the count and the kinds of the shape
+abbrev pub HasShape : Shape → Record → Type 0
+HasShape s r = (r .count ≡ s .count) × (kindsOf (fieldsOf r) ≡ kindsIn s)
 
 -- a shape of 1 to 12 fields, in the twelve places that a program holds
 pub record Usable (s : Shape) : Type 0 where

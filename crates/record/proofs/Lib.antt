@@ -1,3 +1,4 @@
 pub mod Twelve
+pub mod Owned
 pub mod Shaping
 pub mod Determined

@@ -3,9 +3,9 @@ use mathlib.Core.Path.{_≡_, sym, _∙_}
 use Prim.Native.Nat.{_-_}
 use lib.ListN.{length, getD}
 use Rattle.value.specs.declared.Kind.the-variants.{U8}
-use Rattle.record.proofs.Twelve.{good-count}
+use Rattle.record.proofs.Twelve.{twelve-places, good-count}
 use Rattle.key.proofs.KeyNumbers.{number-room}
-use Rattle.key.proofs.ReadSteps.{twelve-places, Filled, read-bad-count, read-bad-length, read-start, read-room, read-stop, read-step, read-end}
+use Rattle.key.proofs.ReadSteps.{Filled, read-bad-count, read-bad-length, read-start, read-room, read-stop, read-step, read-end}
 use borrow.Author.Needs.{needs}
 use Rattle.key.proofs.reading.read.Statement.{statement}
 use Rattle.key.proofs.reading.read.Tie as tie

@@ -3,7 +3,8 @@ use mathlib.Core.Path.{_≡_}
 use Prim.Native.Nat.{_-_}
 use lib.ListN.{length}
 use Rattle.value.specs.declared.Kind.the-variants.{U8}
-use Rattle.key.proofs.ReadSteps.{twelve-places, Summed, sum-none, sum-step, sum-end}
+use Rattle.record.proofs.Twelve.{twelve-places}
+use Rattle.key.proofs.ReadSteps.{Summed, sum-none, sum-step, sum-end}
 use borrow.Author.Needs.{needs}
 use Rattle.key.proofs.reading.shape_length.Statement.{statement}
 use Rattle.key.proofs.reading.shape_length.Tie as tie
