@@ -37,7 +37,8 @@ use Rattle.sample.proofs.Samplings.{length-numbers}
 use Rattle.block.specs.Output.{bytesFor}
 use Rattle.block.specs.Inner.{plainBits, floatedBits}
 use Rattle.block.proofs.Blocks.{BlockAnswers}
-use Rattle.block.proofs.Rowing.{map-same, map-both, Agree, results-length, row-is, left-is, row-gives, row-refuses, row-always, numbers-small, agree-by}
+use Rattle.row.proofs.Rows.{results-length}
+use Rattle.block.proofs.Rowing.{map-same, map-both, Agree, row-is, left-is, row-gives, row-refuses, row-always, numbers-small, agree-by}
 
 -- ---- one sample
 

@@ -24,6 +24,7 @@ use Rattle.bytewise.proofs.LittleEndian.{number-below}
 use Rattle.sample.proofs.Samplings.{length-samples, sample-here, length-numbers, number-here}
 use Rattle.block.specs.Output.{bytesFor}
 use Rattle.block.specs.Migrate.{blockAnswer}
+use Rattle.row.proofs.Rows.{results-length}
 use Rattle.block.proofs.Blocks.{BlockAnswers, block-refused, block-output}
 
 pub map-same : (l : List ℕ) → map (λ (n : ℕ). n) l ≡ l
@@ -60,16 +61,6 @@ module _ {A B C D : Type 0} (f : A → Outcome B) (g : C → Outcome D) (enc : D
         ap (λ o. sampleThen at o (rowAnswer f (suc at) vs)) q ∙ same-then at (g x) (rowAnswer f (suc at) vs) ∙ ap (sampleThen at (g x)) (r .0),
         ap (λ o. sampleBefore o (rowResults f vs)) q ∙ ap (sampleBefore (mapped enc (g x))) (r .1) ∙ same-before (g x) (rowResults g xs),
       )
-
-pub results-length : {A B : Type 0} (conv : A → Outcome B) (at : ℕ) (xs : List A) → rowAnswer conv at xs ≡ gives done → length (rowResults conv xs) ≡ length xs
-unfolding rowAnswer rowResults
-results-length conv at [] h = refl
-results-length {A} {B} conv at (x ∷ xs) h = go (conv x) h (λ k. results-length conv (suc at) xs k)
-  where
-    go : (o : Outcome B) → sampleThen at o (rowAnswer conv (suc at) xs) ≡ gives done
-        → (rowAnswer conv (suc at) xs ≡ gives done → length (rowResults conv xs) ≡ length xs) → length (sampleBefore o (rowResults conv xs)) ≡ suc (length xs)
-    go (gives y) k rest = ap suc (rest k)
-    go (refuses m p) k rest = clash cc
 
 -- ---- the block by its row
 

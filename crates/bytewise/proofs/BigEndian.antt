@@ -12,6 +12,7 @@ use lib.Seq.{append-snoc}
 use Rattle.float.specs.Order.{orderN, orElse, isEqual}
 use Rattle.float.specs.declared.Order.{Order}
 use Rattle.float.specs.declared.Order.the-variants.{Less, Equal, Greater, Unordered}
+use Rattle.float.proofs.SameNumber.{equal-else}
 use Rattle.float.proofs.Naturals.{three-ways, order-less, order-greater, order-equal, equal-test}
 use Rattle.float.proofs.Tests.{clash}
 use Rattle.bytewise.specs.Numbers.{Bytes, none, more, bigEndian, fromBigEndian}
@@ -150,20 +151,14 @@ order-big k m n h l =
 
 -- ---- Equal exactly when the strings are the same
 
-both-equal : (a b : Order) → orElse a b ≡ Equal → (a ≡ Equal) × (b ≡ Equal)
-both-equal Less b h = clash cc
-both-equal Equal b h = (refl, h)
-both-equal Greater b h = clash cc
-both-equal Unordered b h = clash cc
-
 pub equal-bytes : (a b : List ℕ) → bytesOrder a b ≡ Equal → a ≡ b
 unfolding bytesOrder
 equal-bytes [] [] h = refl
 equal-bytes [] (y ∷ b) h = clash cc
 equal-bytes (x ∷ a) [] h = clash cc
 equal-bytes (x ∷ a) (y ∷ b) h =
-    let p : x ≡ y = eqb-true x y (sym (equal-test x y) ∙ ap isEqual (both-equal (orderN x y) (bytesOrder a b) h .0)) in
-    let q : a ≡ b = equal-bytes a b (both-equal (orderN x y) (bytesOrder a b) h .1) in
+    let p : x ≡ y = eqb-true x y (sym (equal-test x y) ∙ ap isEqual (equal-else (orderN x y) (bytesOrder a b) h .0)) in
+    let q : a ≡ b = equal-bytes a b (equal-else (orderN x y) (bytesOrder a b) h .1) in
     cc
 
 pub bytes-equal : (a : List ℕ) → bytesOrder a a ≡ Equal

@@ -39,7 +39,7 @@ unfolding patterns.compareOf
 patterns-order f a b = sym (times-order (stepOf f) (step-pos f) (patternOf (fractionOf f) (exponentOf f) a) (patternOf (fractionOf f) (exponentOf f) b))
 
 -- an integer kind's position is its number
-whole-position : (v : Value) → Whole v → exactOf v ≡ times unit (wholeOf (positionOf v))
+pub whole-position : (v : Value) → Whole v → exactOf v ≡ times unit (wholeOf (positionOf v))
 whole-position (U8 n) t = refl
 whole-position (U16 n) t = refl
 whole-position (U32 n) t = refl

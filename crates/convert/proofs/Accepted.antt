@@ -70,7 +70,7 @@ negated : (m n : ℕ) → pos n ≡ negℤ (pos m) → m ≡ 0
 negated zero n h = refl
 negated (suc m) n h = cc
 
-whole-number : (s : Bool) (n u : ℕ) → numberOf (times u (wholeOf (signedOf s n))) ≡ numberOf (finite s (n * u))
+pub whole-number : (s : Bool) (n u : ℕ) → numberOf (times u (wholeOf (signedOf s n))) ≡ numberOf (finite s (n * u))
 whole-number false n u = refl
 whole-number true zero u = rw (zero-mul u) refl
 whole-number true (suc n) u = refl

@@ -24,7 +24,7 @@ use Rattle.cmp.proofs.Numbers.{patterns-order}
 use Rattle.cmp.proofs.Orders.{turned-order, less-transitive}
 use Rattle.row.specs.Convert.{floatOf}
 use Rattle.row.proofs.F32Sample.{same-pattern}
-use Rattle.key.proofs.Passing.{mapped-gives}
+use Rattle.value.proofs.Outcomes.{mapped-gives}
 use Rattle.laws_cmp.specs.Laws.{OneKind}
 use Rattle.laws_cmp.proofs.Choices.{clamp-bounds, clamp-nan, clamp-below, clamp-above, clamp-within}
 use Rattle.demands.specs.Choosing.{Clamps}

@@ -37,6 +37,7 @@ use Rattle.row.specs.Row.{sampleThen, rowAnswer, sampleBefore, rowResults}
 use Rattle.row.specs.Convert.{floatOf, u8ToU16, u16ToU8, u16ToF32, f32ToU16, convertAnswer, convertExit}
 use Rattle.row.proofs.ConvertRow.{lengths-differ}
 use Rattle.rowclamp.specs.Clamp.{clampAnswer, clampExit}
+use Rattle.row.proofs.Rows.{results-length}
 use Rattle.demands.specs.Rows.{AtEveryIndex, GivenBelow, AnyRow, BoundsInOrder, Rows}
 
 -- ---- samples one after the other
@@ -77,12 +78,8 @@ module _ {A B : Type 0} (conv : A → Outcome B) where
 
   -- ---- the results in a line
 
-  results-length : (xs : List A) → GivenBelow conv xs (length xs) → length (rowResults conv xs) ≡ length xs
-  unfolding rowResults
-  results-length [] g = refl
-  results-length (v ∷ vs) g =
-      ap (λ o. length (sampleBefore o (rowResults conv vs))) (g 0 v (omega arith) .1)
-      ∙ ap suc (results-length vs (given-behind v vs (length vs) g))
+  as-many : (xs : List A) → GivenBelow conv xs (length xs) → length (rowResults conv xs) ≡ length xs
+  as-many xs g = results-length conv 0 xs (given-done 0 xs g)
 
   results-at : (xs : List A) → GivenBelow conv xs (length xs) → AtEveryIndex (λ a b. conv a ≡ gives b) xs (rowResults conv xs)
   unfolding rowResults
@@ -108,14 +105,14 @@ module _ {A B : Type 0} (conv : A → Outcome B) where
 
     exit-results : convertAnswer conv src dst ≡ gives done → convertExit conv src dst ≡ rowResults conv src
     unfolding convertExit
-    exit-results h = let d = done-passes h in given-fills _ dst h (results-length src (d .1) ∙ d .0)
+    exit-results h = let d = done-passes h in given-fills _ dst h (as-many src (d .1) ∙ d .0)
 
   of-any-row : AnyRow conv
   unfolding convertAnswer rowAnswer
   of-any-row = record {
     empty = refl;
     accepted = λ src dst. (done-passes src dst, λ h. same-lengths src dst (h .0) ∙ given-done 0 src (h .1));
-    same-length = λ src dst h. let d = done-passes src dst h in ap length (exit-results src dst h) ∙ results-length src (d .1) ∙ d .0;
+    same-length = λ src dst h. let d = done-passes src dst h in ap length (exit-results src dst h) ∙ as-many src (d .1) ∙ d .0;
     converted = λ src dst h i x y l.
         results-at src (done-passes src dst h .1) i x y l ∙ ap (λ (r : List B). gives (getD r i y)) (sym (exit-results src dst h));
     lengths-differ = λ src dst d. sym (lengths-differ conv src dst d .0);
@@ -218,7 +215,7 @@ module _ (range : Range) where
 
     clamp-results : clampAnswer range row ≡ gives done → clampExit range row ≡ rowResults (sampleOf range) row
     unfolding clampExit
-    clamp-results h = given-fills _ row h (results-length (sampleOf range) row (clamp-passes h .1))
+    clamp-results h = given-fills _ row h (as-many (sampleOf range) row (clamp-passes h .1))
 
 -- ---- every row
 
@@ -230,7 +227,7 @@ of-rows = record {
   u16-to-f32 = λ src dst h i x y l. u16-f32 _ _ (of-any-row u16ToF32 .converted src dst h i x y l);
   f32-to-u16 = λ src dst h i x y l. f32-u16 _ _ (of-any-row f32ToU16 .converted src dst h i x y l);
   clamp-accepted = λ range row. (clamp-passes range row, λ h. bounds-pass range row (h .0) ∙ given-done (sampleOf range) 0 row (h .1));
-  clamp-same-length = λ range row h. ap length (clamp-results range row h) ∙ results-length (sampleOf range) row (clamp-passes range row h .1);
+  clamp-same-length = λ range row h. ap length (clamp-results range row h) ∙ as-many (sampleOf range) row (clamp-passes range row h .1);
   clamped = λ range row h i x y l.
       results-at (sampleOf range) row (clamp-passes range row h .1) i x y l
       ∙ ap (λ (r : List Float). gives (getD r i y)) (sym (clamp-results range row h));

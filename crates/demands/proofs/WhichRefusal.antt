@@ -3,10 +3,10 @@
 use mathlib.Core.Path.{_≡_, refl, sym, _∙_, ap, subst}
 use mathlib.Core.Bool.{Bool, true, false, not, _&&_, true≢false, and-true, and-false}
 use Prim.Native.Nat.{ℕ, zero, suc, _-_, _*_, _/_, _%_, _^_, _≤_, _<_}
-use native.Mathlib.Nat.{div-add-mod', mul-div-cancel, mul-mod-left, zero-mul}
+use native.Mathlib.Nat.{div-add-mod', mul-div-cancel, mul-mod-left}
 use native.Mathlib.Omega.{arith}
 use borrow.Author.Tests.{lt-ltb, le-ltb, eq-eqb, eqb-true, not-false}
-use lib.Dec.{ltb}
+use lib.Dec.{T, ltb}
 use lib.IntN.{ℤ, pos, negsuc, natAbs}
 use lib.Pow.{pow-pos}
 use Rattle.float.specs.Number.{Exact, notNumber, infinite, finite, times, Number, number, numberOf, signedOf}
@@ -16,14 +16,15 @@ use Rattle.value.specs.declared.Kind.{Kind}
 use Rattle.value.specs.declared.Value.{Value}
 use Rattle.value.specs.Kinds.{Form, unsigned, signed, floating, formOf, isInteger, kindOf}
 use Rattle.value.specs.Meaning as value
-use Rattle.value.specs.Meaning.{Content, natural, integer, real, contentOf, wholeOf, unit, exactIn, exactOf, positionIn, positionOf}
+use Rattle.value.specs.Meaning.{wholeOf, unit, exactOf, positionOf}
 use Rattle.value.specs.Outcome.{Outcome, gives, refuses, refuseIf}
 use Rattle.value.specs.Rules.{chain}
 use Rattle.value.proofs.Units.{unit-pos}
 use Rattle.value.proofs.Outcomes.{refuses-same}
-use Rattle.value.proofs.Ranges.{formIn, content-form}
 use Rattle.convert.specs.Convert.{intoRules, outOfForm, outOfRange, notHeldIn, notHeld, hasFraction, madeIn, convertOf}
 use Rattle.convert.specs.Inner.{intoOf}
+use Rattle.cmp.proofs.Numbers.{whole-position}
+use Rattle.convert.proofs.Accepted.{whole-number}
 use Rattle.convert.proofs.Exactly.{other-kind}
 use Rattle.convert.proofs.Infinities.{refused-none}
 use Rattle.demands.specs.Conversion.{Other, HoldsNumberOf}
@@ -80,11 +81,6 @@ whole-magnitude (negsuc n) s m h =
     let q : signedOf s m ≡ signedOf true (suc n * unit) = cc in
     sym (abs-signed s m) ∙ ap natAbs q ∙ abs-signed true (suc n * unit)
 
-signed-whole : (s : Bool) (n u : ℕ) → number (signedOf s (n * u)) ≡ numberOf (times u (wholeOf (signedOf s n)))
-signed-whole false n u = refl
-signed-whole true zero u = rw (zero-mul u) refl
-signed-whole true (suc n) u = refl
-
 -- the third rule's test
 abbrev third : Form → Bool → ℕ → Bool
 third form s m = hasFraction (finite s m) && isInteger form
@@ -96,7 +92,7 @@ module _ {n : Number} (s : Bool) (m : ℕ) (is : n ≡ number (signedOf s m)) wh
   rest-whole : m % unit ≡ 0 → IsWhole n
   rest-whole z =
       let q : m ≡ m / unit * unit = omega (arith, div-add-mod' m unit) in
-      (signedOf s (m / unit), is ∙ ap (λ (k : ℕ). number (signedOf s k)) q ∙ signed-whole s (m / unit) unit)
+      (signedOf s (m / unit), is ∙ ap (λ (k : ℕ). number (signedOf s k)) q ∙ sym (whole-number s (m / unit) unit))
 
   -- to an integer kind only what is whole passes
   passes-third : (form : Form) → (isInteger form ≡ true → IsWhole n) → third form s m ≡ false
@@ -205,14 +201,6 @@ module _ (v : Value) (to : Kind) (o : Other v to) where
 
 -- ---- two integer kinds
 
-content-whole : (c : Content) → isInteger (formIn c) ≡ true → exactIn c ≡ times unit (wholeOf (positionIn c))
-content-whole (natural k n) i = refl
-content-whole (integer k z) i = refl
-content-whole (real f x w) i = absurd (true≢false (sym i))
-
-value-whole : (v : Value) → isInteger (formOf (kindOf v)) ≡ true → exactOf v ≡ times unit (wholeOf (positionOf v))
-value-whole v i = content-whole (contentOf v) (ap isInteger (content-form v) ∙ i)
-
 units-above : (end n : ℕ) → end < n → ltb end (n * unit / unit) ≡ true
 units-above end n h = rw (mul-div-cancel n unit-pos) (lt-ltb end n h)
 
@@ -258,6 +246,6 @@ which-refusal = record {
   );
   within-given = λ v to o i h.
       let t = within-in (formOf to) (positionOf v) h in
-      (_, integer-tests v to o (positionOf v) (value-whole v i) (t .0) (t .1));
-  outside-four = λ v to o i j h. integer-tests v to o (positionOf v) (value-whole v i) (not-within-out (formOf to) (positionOf v) j h) refl;
+      (_, integer-tests v to o (positionOf v) (whole-position v (subst T (sym i) tt)) (t .0) (t .1));
+  outside-four = λ v to o i j h. integer-tests v to o (positionOf v) (whole-position v (subst T (sym i) tt)) (not-within-out (formOf to) (positionOf v) j h) refl;
 }

@@ -5,7 +5,7 @@ use mathlib.Core.Logic.{inl, inr}
 use Prim.Native.Nat.{ℕ}
 use lib.IntN.{ℤ, pos, negsuc}
 use Rattle.float.specs.Number.{Number, none, minusInfinity, plusInfinity, number}
-use Rattle.float.specs.Order.{orderN, orderZ, orderOf, isEqual}
+use Rattle.float.specs.Order.{orderN, orderZ, orderOf, orElse, isEqual}
 use Rattle.float.specs.declared.Order.{Order}
 use Rattle.float.specs.declared.Order.the-variants.{Less, Equal, Greater, Unordered}
 use Rattle.float.proofs.Naturals.{three-ways, order-less, order-greater, order-equal}
@@ -16,6 +16,13 @@ is-equal Less h = cc
 is-equal Equal h = refl
 is-equal Greater h = cc
 is-equal Unordered h = cc
+
+-- the first order that is not Equal is none of both
+pub equal-else : (o p : Order) → orElse o p ≡ Equal → (o ≡ Equal) × (p ≡ Equal)
+equal-else Less p h = (h, cc)
+equal-else Equal p h = (refl, h)
+equal-else Greater p h = (h, cc)
+equal-else Unordered p h = (h, cc)
 
 equal-naturals : (m n : ℕ) → orderN m n ≡ Equal → m ≡ n
 equal-naturals m n h = elim (three-ways m n) [

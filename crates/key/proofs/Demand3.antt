@@ -17,7 +17,7 @@ use Rattle.value.specs.declared.Value.the-variants.{U8}
 use Rattle.value.specs.Kinds.{kindOf}
 use Rattle.value.specs.Outcome.{Outcome, gives, mapped, lentAfter}
 use Rattle.value.specs.Rules.{chain, eachOf}
-use Rattle.value.proofs.Outcomes.{refuse-passes}
+use Rattle.value.proofs.Outcomes.{refuse-passes, mapped-gives}
 use Rattle.record.specs.declared.Field.{Field}
 use Rattle.record.specs.declared.Place.{Place}
 use Rattle.record.specs.declared.Record.{Record}
@@ -30,7 +30,7 @@ use Rattle.key.specs.Inner.{readFields}
 use Rattle.bytewise.specs.Order.{bytesOrder}
 use Rattle.bytewise.specs.Numbers.{Bytes}
 use Rattle.key.specs.Keyed.{AllKeyed, none, more, normalRecord, recordKey, Usable, OfShape}
-use Rattle.key.proofs.Passing.{mapped-gives, read-by}
+use Rattle.key.proofs.Passing.{read-by}
 use Rattle.bytewise.proofs.BigEndian.{first-difference}
 use Rattle.key.proofs.FieldLists.{keys-order, same-keys, key-length, key-bytes, read-written, FieldsFor, written-read}
 

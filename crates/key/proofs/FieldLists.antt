@@ -17,7 +17,7 @@ use Rattle.value.specs.Kinds.{formOf, kindOf, bytesOf}
 use Rattle.value.specs.Meaning.{valueOf}
 use Rattle.value.specs.Outcome.{gives}
 use Rattle.value.proofs.MadeValues.{value-kind}
-use Rattle.value.proofs.Outcomes.{refuse-passes}
+use Rattle.value.proofs.Outcomes.{refuse-passes, mapped-gives}
 use Rattle.cmp.specs.Compare.{valueOrder}
 use Rattle.record.specs.declared.Field.{Field}
 use Rattle.float.specs.Order.{orElse}
@@ -29,7 +29,7 @@ use Rattle.key.specs.Inner.{readFields}
 use Rattle.bytewise.specs.Order.{bytesOrder}
 use Rattle.bytewise.specs.Numbers as numbers
 use Rattle.key.specs.Keyed.{Keyed, AllKeyed, none, more, normalFields}
-use Rattle.key.proofs.Passing.{mapped-gives, read-none, read-more}
+use Rattle.key.proofs.Passing.{read-none, read-more}
 use Rattle.bytewise.proofs.BigEndian.{bytes-append, bytes-big, bytes-take, bytes-drop, length-big, number-big, big-number, number-below}
 use Rattle.bytewise.proofs.BigEndian.{order-append, order-big, equal-bytes, bytes-equal}
 use Rattle.key.proofs.FieldKeys.{field-order, field-read, field-write}

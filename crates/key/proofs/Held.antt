@@ -29,7 +29,7 @@ use Rattle.key.specs.Key.{readOf}
 use Rattle.key.specs.Keyed.{AllKeyed, none, more, normalFields, normalRecord, recordKey, NoNan, HasShape, Usable, OfShape}
 use Rattle.key.specs.Held.{HeldRecord, HeldShape, LentBytes}
 use Rattle.key.proofs.FieldLists.{key-bytes}
-use Rattle.key.proofs.Demand3.{count-good, read-of-written, made-fields, made-places as made-twelve, written-of-read}
+use Rattle.key.proofs.Demand3.{count-good, read-of-written, made-fields, made-places, written-of-read}
 
 -- ---- bytes
 
@@ -60,8 +60,8 @@ made-kinds ks =
     ap (map (λ (p : Place). p .kind)) (take-at (map placeFor ks) (replicate (12 - length ks) (placeFor kind.U8)) (length ks) (length-map ks placeFor))
     ∙ kinds-placed ks
 
-made-places : (ks : List Kind) → length ks ≤ 12 → length (shapeFor ks .places) ≡ 12
-made-places ks h =
+shape-places : (ks : List Kind) → length ks ≤ 12 → length (shapeFor ks .places) ≡ 12
+shape-places ks h =
     length-append (map placeFor ks) (replicate (12 - length ks) (placeFor kind.U8))
     ∙ rw (length-map ks placeFor, length-replicate (12 - length ks) (placeFor kind.U8)) (omega arith)
 
@@ -79,7 +79,7 @@ shape-told r s e =
 
 -- ---- records
 
-pub twelve-held : (r : Record) → HeldRecord r → length (r .fields) ≡ 12
+twelve-held : (r : Record) → HeldRecord r → length (r .fields) ≡ 12
 twelve-held r held = record-held r .0 held .0
 
 -- as many kinds as the count says
@@ -112,7 +112,7 @@ module _ (r : Record) (held : HeldRecord r) (no-nan : NoNan r) where
       let count : length ks ≡ r .count = kinds-count r (twelve-held r held) (given .0) in
       let good = count-good (r .count) (given .0) in
       subst (λ (t : Shape). Usable t × OfShape t r) (given .1) (
-        record { some = rw count (good .0); few = rw count (good .1); places = made-places ks (rw count (good .1)) },
+        record { some = rw count (good .0); few = rw count (good .1); places = shape-places ks (rw count (good .1)) },
         of-shape-held (shapeFor ks) (sym count, sym (made-kinds ks)),
       )
 
@@ -150,16 +150,16 @@ keyed-places n (more f fs h a) zero = h .in-range
 keyed-places n (more f fs h a) (suc at) = keyed-places n a at
 
 pub keyed-held : (fs : List Field) → AllKeyed fs → length fs ≤ 12 → HeldRecord (recordOf fs)
-keyed-held fs a few = record-held (recordOf fs) .1 (made-twelve fs few, keyed-places (12 - length fs) a, omega arith)
+keyed-held fs a few = record-held (recordOf fs) .1 (made-places fs few, keyed-places (12 - length fs) a, omega arith)
 
-some-numbers : {fs : List Field} → AllKeyed fs → (at : ℕ) → isNone (exactOf (valueAt fs at)) ≡ false
-some-numbers none at = refl
-some-numbers (more f fs h a) zero = h .some-number
-some-numbers (more f fs h a) (suc at) = some-numbers a at
+keyed-numbers : {fs : List Field} → AllKeyed fs → (at : ℕ) → isNone (exactOf (valueAt fs at)) ≡ false
+keyed-numbers none at = refl
+keyed-numbers (more f fs h a) zero = h .some-number
+keyed-numbers (more f fs h a) (suc at) = keyed-numbers a at
 
 pub of-shape-numbers : (s : Shape) (r : Record) → OfShape s r → NoNan r
 of-shape-numbers s r h at l =
-    ap (λ (f : Field). isNone (exactOf (f .value))) (sym (getD-take (r .count) (r .fields) at (fieldFor (U8 0)) l)) ∙ some-numbers (h .keyed) at
+    ap (λ (f : Field). isNone (exactOf (f .value))) (sym (getD-take (r .count) (r .fields) at (fieldFor (U8 0)) l)) ∙ keyed-numbers (h .keyed) at
 
 -- what is read, too: it is a record made normal
 module _ (s : Shape) (u : Usable s) where

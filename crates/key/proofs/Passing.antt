@@ -18,10 +18,6 @@ use Rattle.bytewise.specs.Numbers.{fromBigEndian}
 use Rattle.key.specs.Key.{bitsFrom, notCanonical, bytesIn, keyNumbers, canonicalRules, fieldsFrom, readOf}
 use Rattle.key.specs.Inner.{readFields, fieldThen}
 
-pub mapped-gives : {A B : Type 0} (f : A → B) (o : Outcome A) {b : B} → mapped f o ≡ gives b → (a : A) × (o ≡ gives a) × (f a ≡ b)
-mapped-gives f (gives a) h = (a, refl, cc)
-mapped-gives f (refuses number place) h = clash cc
-
 -- ---- reading
 
 pub read-none : (at : ℕ) (key : List ℕ) → readFields at [] key ≡ gives []

@@ -11,7 +11,7 @@ use lib.Dec.{eqb}
 use lib.ListN.{length, take, drop, getD, set, replicate, length-map, length-set, take-append-drop, drop-of-length-le, List·getD-map}
 use lib.Seq.{take-suc, take-all, drop-cons, drop-drop, drop-set-lt, take-suc-set, getD-take, length-take-le}
 use Rattle.float.proofs.Tests.{clash}
-use Rattle.value.proofs.Outcomes.{refuse-passes}
+use Rattle.value.proofs.Outcomes.{refuse-passes, mapped-gives}
 use Rattle.value.specs.declared.Kind.{Kind}
 use Rattle.value.specs.declared.Value.{Value}
 use Rattle.value.specs.declared.Value.the-variants.{U8}
@@ -29,7 +29,7 @@ use Rattle.key.specs.declared.Weights.{Weights}
 use Rattle.bytewise.specs.Numbers.{fromBigEndian}
 use Rattle.key.specs.Key.{bitsFrom, notCanonical, bytesIn, readOf}
 use Rattle.key.specs.Inner.{weightsFor, bitsByWeights, foreignIn, readFields}
-use Rattle.key.proofs.Passing.{mapped-gives, read-none, read-more, read-by}
+use Rattle.key.proofs.Passing.{read-none, read-more, read-by}
 use Rattle.value.proofs.Widths.{kind-sized}
 use Rattle.key.proofs.KeyNumbers.{form-bits, form-foreign}
 

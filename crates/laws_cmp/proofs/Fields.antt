@@ -10,7 +10,7 @@ use Rattle.float.specs.Order.{orderOf, orElse}
 use Rattle.float.proofs.Tests.{clash}
 use Rattle.float.proofs.Turned.{turned, turn}
 use Rattle.float.proofs.Transitive.{less-trans}
-use Rattle.float.proofs.SameNumber.{equal-same}
+use Rattle.float.proofs.SameNumber.{equal-same, equal-else}
 use Rattle.value.specs.declared.Value.{Value}
 use Rattle.value.specs.Kinds.{kindOf}
 use Rattle.value.specs.Meaning.{numberOf}
@@ -35,12 +35,6 @@ less-else Less p h = inl refl
 less-else Equal p h = inr (refl, h)
 less-else Greater p h = inl h
 less-else Unordered p h = inl h
-
-equal-else : (o p : Order) → orElse o p ≡ Equal → (o ≡ Equal) × (p ≡ Equal)
-equal-else Less p h = (h, cc)
-equal-else Equal p h = (refl, h)
-equal-else Greater p h = (h, cc)
-equal-else Unordered p h = (h, cc)
 
 -- ---- Equal exactly when every field is
 

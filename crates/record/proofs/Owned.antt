@@ -10,17 +10,13 @@ use mir.Val.{Val}
 use denote.RattleType.{RattleType}
 use denote.Shadow.{shadow}
 use denote.Laws.{Is}
-use denote.Floats.{is-true}
 use denote.Array.{each}
 use Rattle.value.specs.declared.Kind.{Kind}
 use Rattle.value.specs.declared.Kind.the-variants as kind
-use Rattle.value.specs.declared.Value.{Value}
-use Rattle.value.specs.declared.Value.the-variants.{U8, U16, U32, U64, I8, I16, I32, I64, F32, F64}
+use Rattle.value.specs.declared.Value.the-variants.{U8}
 use Rattle.value.specs.Meaning.{contentOf, InRange}
-use Rattle.value.proofs.TwosComplement.{fits-below}
-use Rattle.value.proofs.Ranges.{value-held}
+use Rattle.value.proofs.Ranges.{value-held, Stands, value-stands}
 use Rattle.value.proofs.Kind as kind-type
-use Rattle.value.proofs.Value as value-type
 use Rattle.record.specs.declared.Field.{Field}
 use Rattle.record.specs.declared.Place.{Place}
 use Rattle.record.specs.declared.Record.{Record}
@@ -46,22 +42,6 @@ field-held : (f : Field) (vs : List Val) → Is field-type.the-row f vs → InRa
 field-held f vs p = value-held (f .value) _ (p .1 .1 .0)
 
 -- ---- what is in range can be owned
-
--- one machine value stands for it
-abbrev Stands : (R : RattleType) → R .Denot → Type 0
-Stands R x = (u : Val) × Is R x (u ∷ [])
-
-value-stands : (v : Value) → InRange (contentOf v) → Stands value-type.the-row v
-value-stands (U8 n) h = (_, (_, (refl, ((_, tt), (refl, ((refl, h), tt))))))
-value-stands (U16 n) h = (_, (_, (refl, ((_, tt), (refl, ((refl, h), tt))))))
-value-stands (U32 n) h = (_, (_, (refl, ((_, tt), (refl, ((refl, h), tt))))))
-value-stands (U64 n) h = (_, (_, (refl, ((_, tt), (refl, ((refl, h), tt))))))
-value-stands (I8 z) h = (_, (_, (refl, ((_, tt), (refl, ((refl, fits-below (2 ^ 7) z h), tt))))))
-value-stands (I16 z) h = (_, (_, (refl, ((_, tt), (refl, ((refl, fits-below (2 ^ 15) z h), tt))))))
-value-stands (I32 z) h = (_, (_, (refl, ((_, tt), (refl, ((refl, fits-below (2 ^ 31) z h), tt))))))
-value-stands (I64 z) h = (_, (_, (refl, ((_, tt), (refl, ((refl, fits-below (2 ^ 63) z h), tt))))))
-value-stands (F32 x w) h = (_, (_, (refl, ((_, (_, tt)), (refl, ((refl, is-true _ (h .0)), ((refl, h .1), tt)))))))
-value-stands (F64 x w) h = (_, (_, (refl, ((_, (_, tt)), (refl, ((refl, is-true _ (h .0)), ((refl, h .1), tt)))))))
 
 field-stands : (f : Field) → InRange (contentOf (f .value)) → Stands field-type.the-row f
 field-stands f h = let v = value-stands (f .value) h in (_, ((_, tt), (refl, (v .1, tt))))

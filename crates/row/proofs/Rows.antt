@@ -8,6 +8,7 @@ use native.Mathlib.Omega.{arith}
 use lib.ListN.{length, getD, length-map}
 use Rattle.value.specs.Outcome.{Outcome, gives, refuses, refuseIf, Success, done, lentAfter}
 use Rattle.value.proofs.Outcomes.{refused-unchanged, given-fills}
+use Rattle.float.proofs.Tests.{clash}
 use Rattle.row.specs.Row.{rowAnswer, rowResults, first, sampleThen, sampleBefore}
 use Rattle.row.proofs.Scan.{first-all, none-at}
 
@@ -84,3 +85,14 @@ module _ {A B : Type 0} (conv : A → Outcome B) (test : A → Bool) (f : A → 
         let o : ruledAnswer conv s rule n ≡ gives done = passed ∙ r .0 in
         let fills : length (rowResults conv s) ≡ length old = ap length (r .1) ∙ length-map s f ∙ same in
         (sym o, q ∙ sym (r .1) ∙ sym (given-fills (λ (d : Success). rowResults conv s) old o fills))
+
+-- a row in which no sample is refused has as many results
+pub results-length : {A B : Type 0} (conv : A → Outcome B) (at : ℕ) (xs : List A) → rowAnswer conv at xs ≡ gives done → length (rowResults conv xs) ≡ length xs
+unfolding rowAnswer rowResults
+results-length conv at [] h = refl
+results-length {A} {B} conv at (x ∷ xs) h = go (conv x) h (λ k. results-length conv (suc at) xs k)
+  where
+    go : (o : Outcome B) → sampleThen at o (rowAnswer conv (suc at) xs) ≡ gives done
+        → (rowAnswer conv (suc at) xs ≡ gives done → length (rowResults conv xs) ≡ length xs) → length (sampleBefore o (rowResults conv xs)) ≡ suc (length xs)
+    go (gives y) k rest = ap suc (rest k)
+    go (refuses m p) k rest = clash cc

@@ -7,7 +7,7 @@ use lib.ListN.{length, drop}
 use lib.Seq.{drop-length}
 use Rattle.float.proofs.Tests.{clash}
 use Rattle.value.specs.declared.Refusal.{Refusal}
-use Rattle.value.specs.Outcome.{Outcome, gives, refuses, refuseIf, refusalOf, lentAfter}
+use Rattle.value.specs.Outcome.{Outcome, gives, refuses, refuseIf, refusalOf, mapped, lentAfter}
 
 made : ℕ → ℕ → Refusal
 made number place = record { number = number; place = place }
@@ -25,6 +25,11 @@ refusal-injective f g h =
 pub refuse-passes : {A : Type 0} (t : Bool) (n p : ℕ) (next : Outcome A) (a : A) → refuseIf t n p next ≡ gives a → (t ≡ false) × (next ≡ gives a)
 refuse-passes true n p next a h = clash cc
 refuse-passes false n p next a h = (refl, h)
+
+-- a result came of one
+pub mapped-gives : {A B : Type 0} (f : A → B) (o : Outcome A) {b : B} → mapped f o ≡ gives b → (a : A) × (o ≡ gives a) × (f a ≡ b)
+mapped-gives f (gives a) h = (a, refl, cc)
+mapped-gives f (refuses number place) h = clash cc
 
 -- one refusal is one number and one place
 pub refuses-same : {A : Type 0} {n p m q : ℕ} → _≡_ {A = Outcome A} (refuses n p) (refuses m q) → (n ≡ m) × (p ≡ q)

@@ -1,7 +1,7 @@
 -- What a program holds is in the range of its kind: owning a value tells it. So its bits are no more than its kind has.
 use mathlib.Core.Path.{_≡_, refl, sym, subst}
 use mathlib.Core.Bool.{Bool, true, false, cond}
-use mathlib.Core.List.{List}
+use mathlib.Core.List.{List, [], _∷_}
 use Prim.Native.Nat.{ℕ, suc, _+_, _-_, _*_, _%_, _^_, _≤_, _<_}
 use native.Mathlib.Nat.{pow-suc}
 use native.Mathlib.Omega.{arith}
@@ -11,7 +11,9 @@ use lib.Pow.{pow-pos}
 use lib.Ieee.{Float, Format, binary32, binary64, isNan, fits, toBits}
 use lib.Ieee.Bits.{toBits-lt, ofBits-fits}
 use mir.Val.{Val}
+use denote.RattleType.{RattleType}
 use denote.Laws.{Is}
+use denote.Floats.{is-true}
 use denote.Enum.Declared.{row}
 use denote.Enum.Laws.{owed}
 use Rattle.float.specs.Format.{fractionOf, exponentOf, infOf, nanOf}
@@ -22,9 +24,9 @@ use Rattle.value.specs.declared.Value.the-variants.{U8, U16, U32, U64, I
 use Rattle.value.specs.Kinds.{Form, unsigned, signed, floating, formOf, widthIn, kindOf}
 use Rattle.value.specs.Meaning.{Content, natural, integer, real, contentOf, fitsSigned, floatBits, bitsIn, bitsOf, InRange, fromTwos, wordFor, valueOf}
 use Rattle.value.proofs.Widths.{Sized}
-use Rattle.value.proofs.TwosComplement.{below-fits, from-fits}
+use Rattle.value.proofs.TwosComplement.{fits-below, below-fits, from-fits}
 use Rattle.value.proofs.MadeValues.{low-bits}
-use Rattle.value.proofs.Value.{the-type}
+use Rattle.value.proofs.Value.{the-type, the-row}
 use Rattle.value.proofs.Value.Laws.{the-laws}
 
 -- ---- what a program holds
@@ -40,6 +42,24 @@ value-held (I32 z) vs p = below-fits (2 ^ 31) z (owed the-type the-laws (I32 z) 
 value-held (I64 z) vs p = below-fits (2 ^ 63) z (owed the-type the-laws (I64 z) vs p .0 .1)
 value-held (F32 x w) vs p = let o = owed the-type the-laws (F32 x w) vs p in (subst T (sym (o .0 .1)) tt, o .1 .0 .1)
 value-held (F64 x w) vs p = let o = owed the-type the-laws (F64 x w) vs p in (subst T (sym (o .0 .1)) tt, o .1 .0 .1)
+
+-- ---- and what is in range a program can hold
+
+-- one machine value stands for it
+abbrev pub Stands : (R : RattleType) → R .Denot → Type 0
+Stands R x = (u : Val) × Is R x (u ∷ [])
+
+pub value-stands : (v : Value) → InRange (contentOf v) → Stands the-row v
+value-stands (U8 n) h = (_, (_, (refl, ((_, tt), (refl, ((refl, h), tt))))))
+value-stands (U16 n) h = (_, (_, (refl, ((_, tt), (refl, ((refl, h), tt))))))
+value-stands (U32 n) h = (_, (_, (refl, ((_, tt), (refl, ((refl, h), tt))))))
+value-stands (U64 n) h = (_, (_, (refl, ((_, tt), (refl, ((refl, h), tt))))))
+value-stands (I8 z) h = (_, (_, (refl, ((_, tt), (refl, ((refl, fits-below (2 ^ 7) z h), tt))))))
+value-stands (I16 z) h = (_, (_, (refl, ((_, tt), (refl, ((refl, fits-below (2 ^ 15) z h), tt))))))
+value-stands (I32 z) h = (_, (_, (refl, ((_, tt), (refl, ((refl, fits-below (2 ^ 31) z h), tt))))))
+value-stands (I64 z) h = (_, (_, (refl, ((_, tt), (refl, ((refl, fits-below (2 ^ 63) z h), tt))))))
+value-stands (F32 x w) h = (_, (_, (refl, ((_, (_, tt)), (refl, ((refl, is-true _ (h .0)), ((refl, h .1), tt)))))))
+value-stands (F64 x w) h = (_, (_, (refl, ((_, (_, tt)), (refl, ((refl, is-true _ (h .0)), ((refl, h .1), tt)))))))
 
 -- ---- the form of a kind
 
