@@ -15,6 +15,9 @@ pub mod Rows
 pub mod LentRows
 pub mod Demand2
 pub mod Demand3
+pub mod NormalBits
+pub mod BoundaryFields
+pub mod BoundaryKeys
 pub mod Determined
 pub mod Marked
 pub mod Demands

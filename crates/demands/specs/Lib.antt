@@ -25,6 +25,8 @@ pub mod Rows
 pub mod LentRows
 -- keys and the order of their bytes
 pub mod Demand3
+-- the same at the boundary, in kind numbers and bits
+pub mod BoundaryKeys
 -- no two outcomes meet a contract
 pub mod Determined
 -- the fourteen marked cases
