@@ -23,7 +23,7 @@ use Rattle.bytewise.specs.Numbers.{Bytes, bigEndian}
 use Rattle.lexical.specs.Lexical.{compareOf}
 use Rattle.key.specs.Key.{keyOf, nanRules, writeOf, readOf}
 use Rattle.key.specs.Keyed.{AllKeyed, normalFields, normalRecord, Usable, OfShape}
-use Rattle.key.proofs.Passing.{mapped-gives}
+use Rattle.value.proofs.Outcomes.{mapped-gives}
 use Rattle.key.proofs.Demand3.{count-good, written-of-read, made-fields}
 use Rattle.silamogo.specs.Samples.{unnamed, anyUnnamed, kindFor, tooWide, firstWide, valueFor}
 use Rattle.silamogo.specs.Records.{pairedSamples, padded, fieldIn, recordFor, shapeFor, fieldBits, recordBits}

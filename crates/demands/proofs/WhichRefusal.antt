@@ -201,6 +201,9 @@ module _ (v : Value) (to : Kind) (o : Other v to) where
 
 -- ---- two integer kinds
 
+integer-exact : (v : Value) → isInteger (formOf (kindOf v)) ≡ true → exactOf v ≡ times unit (wholeOf (positionOf v))
+integer-exact v i = whole-position v (subst T (sym i) tt)
+
 units-above : (end n : ℕ) → end < n → ltb end (n * unit / unit) ≡ true
 units-above end n h = rw (mul-div-cancel n unit-pos) (lt-ltb end n h)
 
@@ -246,6 +249,6 @@ which-refusal = record {
   );
   within-given = λ v to o i h.
       let t = within-in (formOf to) (positionOf v) h in
-      (_, integer-tests v to o (positionOf v) (whole-position v (subst T (sym i) tt)) (t .0) (t .1));
-  outside-four = λ v to o i j h. integer-tests v to o (positionOf v) (whole-position v (subst T (sym i) tt)) (not-within-out (formOf to) (positionOf v) j h) refl;
+      (_, integer-tests v to o (positionOf v) (integer-exact v i) (t .0) (t .1));
+  outside-four = λ v to o i j h. integer-tests v to o (positionOf v) (integer-exact v i) (not-within-out (formOf to) (positionOf v) j h) refl;
 }

@@ -4,6 +4,7 @@ use Rattle.demands.specs.Boundary.{AtTheBoundary}
 use Rattle.demands.specs.Blocks.{OfBlocks}
 use Rattle.demands.specs.Demand2.{Demand2}
 use Rattle.demands.specs.Demand3.{Demand3}
+use Rattle.demands.specs.BoundaryKeys.{BoundaryKeys}
 use Rattle.demands.specs.Determined.{Determined}
 use Rattle.demands.specs.Marked.{marked, AllAnswered}
 
@@ -14,6 +15,7 @@ pub record Demands : Type 1 where
   pub first-of-blocks : OfBlocks
   pub second : Demand2
   pub third : Demand3
+  pub third-at-the-boundary : BoundaryKeys
   -- the contracts that give these definitions leave no two answers
   pub determined : Determined
   -- the marked cases have the answers that they owe

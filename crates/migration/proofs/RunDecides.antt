@@ -22,7 +22,7 @@ use Rattle.sample.proofs.Joining.{left-joined}
 use Rattle.block.specs.Migrate.{outputOf, migrateOf, placedFrom, blockAnswer, stepSamples, stepAnswer, stepExit}
 use Rattle.block.specs.Theorem.{Blocks, none, last, more, Reached, writtenBy, stepped, runOf, start}
 use Rattle.block.proofs.Samplings.{length-bytes}
-use Rattle.block.proofs.Rowing.{results-length}
+use Rattle.row.proofs.Rows.{results-length}
 use Rattle.block.proofs.Whole.{blocks-decide}
 use Rattle.look.specs.declared.Seen.{Seen}
 use Rattle.look.specs.Report.{nothingSeen, lookOf}
