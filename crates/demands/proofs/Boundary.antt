@@ -41,7 +41,7 @@ use Rattle.demands.proofs.Lengths.{bad-count}
 use Rattle.demands.proofs.Demand1.{row-chain, through, by-its-rules}
 use Rattle.silamogo.proofs.Determined.{answered-injective, ordered-injective, classed-injective, positioned-injective}
 use Rattle.silamogo.proofs.Determined.{sampled-injective, measured-injective}
-use Rattle.demands.proofs.Numbers.{numbered-by, numbered-mapped, each-no-zero, convert-no-zero, nan-no-zero, canonical-no-zero}
+use Rattle.demands.proofs.RuleNumbers.{numbered-by, numbered-mapped, each-absent, convert-no-zero, nan-absent, canonical-absent}
 
 by-migrate : (from to : Kind) (input : List ℕ)
     → By (leftRules from input ++ eachOf (λ v. convertRules v to) 0 (samplesOf from input)) (answerOf from to input)
@@ -128,14 +128,14 @@ all-numbered = record {
   clamp = λ v lower upper. numbered-by (by-boundary-rules .clamp v lower upper) refl;
   convert = λ v to. numbered-by (by-boundary-rules .convert v to) (convert-no-zero (valueFor v) (kindFor to));
   compare-records = λ ns xs ms ys. numbered-by (by-boundary-rules .compare-records ns xs ms ys) refl;
-  write-key = λ ns bs room. numbered-by (by-boundary-rules .write-key ns bs room) (nan-no-zero 0 (fieldsOf (recordFor (pairedSamples ns bs))));
+  write-key = λ ns bs room. numbered-by (by-boundary-rules .write-key ns bs room) (nan-absent 0 refl 0 (fieldsOf (recordFor (pairedSamples ns bs))));
   read-key = λ ns key room. numbered-mapped (λ r. done) (recordRead ns key room)
-      (numbered-by (by-boundary-rules .read-key ns key room) (canonical-no-zero 0 (keyNumbers (kindsIn (shapeFor ns)) key)));
-  row-clamp = λ lower upper row. numbered-by (by-its-rules .row-clamp (boundsOf lower upper) row) (each-no-zero _ (λ x. refl) 0 row);
-  u8-to-u16 = λ src dst. numbered-by (by-its-rules .u8-to-u16 src dst) (each-no-zero _ (λ n. convert-no-zero (U8 n) kind.U16) 0 src);
-  u16-to-u8 = λ src dst. numbered-by (by-its-rules .u16-to-u8 src dst) (each-no-zero _ (λ n. convert-no-zero (U16 n) kind.U8) 0 src);
-  u16-to-f32 = λ src dst. numbered-by (by-its-rules .u16-to-f32 src dst) (each-no-zero _ (λ n. convert-no-zero (U16 n) kind.F32) 0 src);
-  f32-to-u16 = λ src dst. numbered-by (by-its-rules .f32-to-u16 src dst) (each-no-zero _ (λ x. convert-no-zero (F32 x 0) kind.U16) 0 src);
+      (numbered-by (by-boundary-rules .read-key ns key room) (canonical-absent 0 refl 0 (keyNumbers (kindsIn (shapeFor ns)) key)));
+  row-clamp = λ lower upper row. numbered-by (by-its-rules .row-clamp (boundsOf lower upper) row) (each-absent 0 _ (λ x. refl) 0 row);
+  u8-to-u16 = λ src dst. numbered-by (by-its-rules .u8-to-u16 src dst) (each-absent 0 _ (λ n. convert-no-zero (U8 n) kind.U16) 0 src);
+  u16-to-u8 = λ src dst. numbered-by (by-its-rules .u16-to-u8 src dst) (each-absent 0 _ (λ n. convert-no-zero (U16 n) kind.U8) 0 src);
+  u16-to-f32 = λ src dst. numbered-by (by-its-rules .u16-to-f32 src dst) (each-absent 0 _ (λ n. convert-no-zero (U16 n) kind.F32) 0 src);
+  f32-to-u16 = λ src dst. numbered-by (by-its-rules .f32-to-u16 src dst) (each-absent 0 _ (λ x. convert-no-zero (F32 x 0) kind.U16) 0 src);
 }
 
 nothing-lost : NothingLost

@@ -1,6 +1,6 @@
+pub mod RuleNumbers
 pub mod Lengths
 pub mod Demand1
-pub mod Numbers
 pub mod Boundary
 pub mod Blocks
 pub mod Floats
