@@ -8,7 +8,6 @@ use native.Mathlib.Omega.{arith}
 use borrow.Author.Tests.{eq-eqb}
 use lib.ListN.{length, drop, getD, length-map, List·getD-map}
 use lib.Seq.{sets, getD-drop}
-use Rattle.float.proofs.Tests.{clash}
 use Rattle.value.specs.declared.Kind.{Kind}
 use Rattle.value.specs.declared.Value.the-variants.{U8}
 use Rattle.value.specs.Meaning.{valueOf}

@@ -8,11 +8,12 @@ use native.Mathlib.Omega.{arith}
 use borrow.Author.Tests.{eq-eqb, ne-eqb}
 use lib.IntN.{ℤ, pos, negsuc}
 use lib.Signed.{mag}
-use lib.Ieee.{Format, binary32, binary64, ofBits, top}
+use lib.Ieee.{Format, binary32, binary64, ofBits}
 use Rattle.float.specs.Format.{fractionOf, exponentOf, signOf}
 use Rattle.float.specs.Number.{Exact, notNumber, infinite, finite, isNone, times, none}
 use Rattle.float.specs.Number as float-number
 use Rattle.float.specs.Order.{patternOf}
+use Rattle.float.proofs.Language.{below-top}
 use Rattle.float.proofs.Tests.{clash}
 use Rattle.value.specs.declared.Kind.{Kind}
 use Rattle.value.specs.declared.Kind.the-variants as kind
@@ -45,13 +46,9 @@ made-kind kind.I64 x = refl
 made-kind kind.F32 x = refl
 made-kind kind.F64 x = refl
 
-sign-top : (f : Format) → 2 * signOf (fractionOf f) (exponentOf f) ≡ 2 * top f
-sign-top binary32 = refl
-sign-top binary64 = refl
-
 float-bits : (f : Format) (x : Exact) → Accepted (floating f) x
     → floatBits f (ofBits f (patternFor f x)) (wordFor (fractionOf f) (exponentOf f) (patternFor f x)) ≡ patternFor f x
-float-bits f x a = bits-pattern f (patternFor f x) (subst (λ (n : ℕ). patternFor f x < n) (sign-top f) (pattern-small f x a))
+float-bits f x a = bits-pattern f (patternFor f x) (below-top f (patternFor f x) (pattern-small f x a))
 
 pub made-exact : (to : Kind) (x : Exact) → Accepted (formOf to) x → exactOf (madeIn to x) ≡ exactFor (formOf to) x
 unfolding madeIn

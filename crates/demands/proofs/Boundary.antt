@@ -1,14 +1,12 @@
 -- Demand 1 at the boundary: its rules stand before the library's chain, so the two are one chain. No list of rules has the number 0, so no call
 -- refuses with it.
-use Prim.Native.Nat.{ℕ, zero, suc, _^_, _≤_, _<_}
+use Prim.Native.Nat.{ℕ, zero, suc, _^_, _≤_}
 use native.Mathlib.Omega.{arith}
 use mathlib.Core.Path.{_≡_, refl, sym, ap}
-use mathlib.Core.Bool.{Bool, true, false, _||_, true≢false}
-use mathlib.Core.Logic.{_⊎_, inl, inr}
+use mathlib.Core.Bool.{true, false, true≢false}
 use mathlib.Core.List.{List, [], _∷_, _++_}
-use lib.Dec.{eqb, ltb}
 use lib.ListN.{length}
-use borrow.Author.Tests.{eqb-true, ltb-true, lt-ltb, leb-true, le-leb}
+use borrow.Author.Tests.{leb-true, le-leb}
 use Rattle.value.specs.declared.Kind.{Kind}
 use Rattle.value.specs.declared.Kind.the-variants as kind
 use Rattle.value.specs.declared.Value.the-variants.{U8, U16, F32}
@@ -28,7 +26,7 @@ use Rattle.convert.specs.Convert.{convertRules, convertedTo}
 use Rattle.key.specs.Key.{writeRules, writeOf, keyNumbers, readRules, readOf}
 use Rattle.lexical.specs.Lexical.{recordRules}
 use Rattle.lexical.specs.Lexical as lexical
-use Rattle.record.specs.Record.{badCount, fieldsOf, kindsIn}
+use Rattle.record.specs.Record.{fieldsOf, kindsIn}
 use Rattle.silamogo.specs.Samples.{isNothing, unnamed, kindFor, tooWide, valueFor}
 use Rattle.silamogo.specs.Answer.{boundsOf}
 use Rattle.silamogo.specs.Single.{twoRules, compareOf, totalOf, minOf, maxOf, threeRules, clampOf, kindRules, convertOf, classifyOf, samplePosition}

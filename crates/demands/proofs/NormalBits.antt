@@ -5,9 +5,10 @@ use native.Mathlib.Omega.{arith}
 use mathlib.Core.Path.{_≡_, refl, sym, ap, _∙_, subst}
 use mathlib.Core.Bool.{Bool, true, false, cond}
 use lib.Dec.{eqb}
-use lib.Ieee.{Float, Format, binary32, binary64, ofBits, top}
+use lib.Ieee.{Float, Format, binary32, binary64, ofBits}
 use Rattle.float.specs.Format.{fractionOf, exponentOf, signOf}
 use Rattle.float.specs.Number.{isNone}
+use Rattle.float.proofs.Language.{below-top}
 use Rattle.value.specs.declared.Kind.{Kind}
 use Rattle.value.specs.declared.Kind.the-variants as kind
 use Rattle.value.specs.declared.Value.{Value}
@@ -53,10 +54,6 @@ normal-again v h q =
 float-value : (f : Format) (x : Float) → bitsOf (floatValue f x) ≡ floatBits f x 0
 float-value binary32 x = refl
 float-value binary64 x = refl
-
-below-top : (f : Format) (b : ℕ) → b < 2 * signOf (fractionOf f) (exponentOf f) → b < 2 * top f
-below-top binary32 b h = h
-below-top binary64 b h = h
 
 float-range : (f : Format) (x : Float) (w : ℕ) → InRange (real f x w) → floatBits f x w < 2 * signOf (fractionOf f) (exponentOf f)
 float-range binary32 x w r = bits-range (real binary32 x w) (kind-sized kind.F32) r

@@ -1,14 +1,12 @@
 -- A rule refuses exactly when it holds, as long as no rule behind it has its number: so 7 of two values, and 11 and then 7 of two records.
-use Prim.Native.Nat.{ℕ}
 use mathlib.Core.Path.{_≡_, refl}
 use mathlib.Core.Logic.{_↔_, Iff·trans}
 use mathlib.Core.Bool.{true, false, _||_}
 use mathlib.Core.List.{List, [], _∷_}
 use Rattle.float.specs.Order.{orderZ}
-use Rattle.float.proofs.Tests.{clash}
 use Rattle.value.specs.declared.Value.{Value}
 use Rattle.value.specs.Meaning.{positionOf}
-use Rattle.value.specs.Outcome.{Outcome, gives, refuses, refuseIf, mapped}
+use Rattle.value.specs.Outcome.{Outcome, gives, refuses, refuseIf}
 use Rattle.value.specs.Rules.{Rule, rule, chain, numbersOf}
 use Rattle.value.proofs.KindNumbers.{number-injective}
 use Rattle.cmp.specs.Compare.{kindsDiffer, valueOrder, compareOf, totalOf}
@@ -22,12 +20,9 @@ use Rattle.lexical.specs.Lexical.{shapesDiffer, lexicalOf, decidingOf, recordRu
 use Rattle.lexical.specs.Lexical as lexical
 use Rattle.lexical.proofs.Given.{shape-kinds, kinds-shape}
 use Rattle.laws_cmp.specs.Laws.{OneKind}
+use Rattle.laws_cmp.proofs.Tests.{refused-exactly}
 use Rattle.demands.specs.Choosing.{ElevenThenSeven, SevenForKinds, RuleSeven}
 use Rattle.demands.proofs.RuleNumbers.{absent, first-exactly, true-otherwise, either}
-
-mapped-refuses : {A B : Type 0} (f : A → B) (o : Outcome A) (n p : ℕ) → (mapped f o ≡ refuses n p) ↔ (o ≡ refuses n p)
-mapped-refuses f (gives a) n p = ((λ h. clash cc), λ h. clash cc)
-mapped-refuses f (refuses m q) n p = ((λ h. cc), λ h. cc)
 
 -- ---- 7 of two values
 
@@ -61,7 +56,7 @@ max-seven a b = seven a b (unordered 0 (valueOrder a b) ∷ []) (otherIfGreater 
 pub rule-seven : RuleSeven
 rule-seven = record {
   compare = compare-seven;
-  tests = λ test a b. Iff·trans (mapped-refuses test (compareOf a b) 7 0) (compare-seven a b);
+  tests = λ test a b. Iff·trans (refused-exactly test (compareOf a b) 7 0) (compare-seven a b);
   total-order = total-seven;
   min = min-seven;
   max = max-seven;
@@ -79,8 +74,9 @@ module _ {A : Type 0} (call : Record → Record → Outcome A) (rest : Record �
     (others : (a b : Record) → (absent 11 (numbersOf (rest a b)) ≡ true) × (absent 7 (numbersOf (rest a b)) ≡ true)) where
   eleven : (a b : Record) → (call a b ≡ refuses 11 0) ↔ ((badCount (a .count) || badCount (b .count)) ≡ true)
   unfolding numbersOf
-  eleven a b = rw (is a b)
-      (first-exactly 11 (badCount (a .count) || badCount (b .count)) (rule 7 0 (shapesDiffer (fieldsOf a) (fieldsOf b)) ∷ rest a b) (result a b) (others a b .0))
+  eleven a b =
+      let behind = rule 7 0 (shapesDiffer (fieldsOf a) (fieldsOf b)) ∷ rest a b in
+      rw (is a b) (first-exactly 11 (badCount (a .count) || badCount (b .count)) behind (result a b) (others a b .0))
 
   pub eleven-then-seven : ElevenThenSeven call
   eleven-then-seven = record {

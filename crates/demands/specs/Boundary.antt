@@ -1,9 +1,9 @@
 -- Demand 1 at the boundary and for a whole input: a call's own rules come first, then those of the library's call on the values. RULES.md: The
 -- boundary, Migration.
-use Prim.Native.Nat.{ℕ, _^_, _≤_, _<_}
+use Prim.Native.Nat.{ℕ, _^_, _≤_}
 use mathlib.Core.Path.{_≡_}
 use mathlib.Core.Bool.{true, _||_}
-use mathlib.Core.Logic.{_↔_, _⊎_}
+use mathlib.Core.Logic.{_↔_}
 use mathlib.Core.List.{List, [], _∷_, _++_}
 use lib.Ieee.{Float}
 use lib.IntN.{ℤ}

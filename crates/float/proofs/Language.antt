@@ -47,9 +47,12 @@ some-ones : (f : Format) → eqb 0 (ones f) ≡ false
 some-ones binary32 = refl
 some-ones binary64 = refl
 
-sign-top : (f : Format) → top f ≡ signOf (fractionOf f) (exponentOf f)
+pub sign-top : (f : Format) → top f ≡ signOf (fractionOf f) (exponentOf f)
 sign-top binary32 = refl
 sign-top binary64 = refl
+
+pub below-top : (f : Format) (b : ℕ) → b < 2 * signOf (fractionOf f) (exponentOf f) → b < 2 * top f
+below-top f b h = subst (λ (n : ℕ). b < 2 * n) (sym (sign-top f)) h
 
 pub infinity-positive : (f : Format) → 0 < infOf (fractionOf f) (exponentOf f)
 infinity-positive binary32 = lit< tt

@@ -12,7 +12,7 @@ use Rattle.float.specs.Number.{Exact, notNumber, isNone, times}
 use Rattle.float.specs.Order.{orderN, orderOf, patternOf}
 use Rattle.float.specs.Number as float-number
 use Rattle.float.proofs.Comparing.{pattern-nan}
-use Rattle.float.proofs.Language.{times-none, infinity-positive, nan-pattern, nan-float}
+use Rattle.float.proofs.Language.{sign-top, below-top, times-none, infinity-positive, nan-pattern, nan-float}
 use Rattle.float.proofs.Tests.{neither}
 use Rattle.value.specs.Kinds.{floating}
 use Rattle.value.specs.Meaning.{Content, real, stepOf, exactIn, floatBits, nanWord, wordFor}
@@ -23,13 +23,6 @@ use Rattle.key.specs.Keyed.{plusZero}
 use Rattle.key.proofs.FloatKeys.{key-below, key-order, from-below, from-key, key-canonical, key-from}
 
 -- ---- the two formats
-
-top-sign : (f : Format) → top f ≡ signOf (fractionOf f) (exponentOf f)
-top-sign binary32 = refl
-top-sign binary64 = refl
-
-below-top : (f : Format) (b : ℕ) → b < 2 * signOf (fractionOf f) (exponentOf f) → b < 2 * top f
-below-top f b h = rw (top-sign f) h
 
 -- ---- a NaN has no number
 
@@ -66,7 +59,7 @@ module _ (f : Format) (x : Float) (w : ℕ) (h : T (fits f x)) (s : isNone (exac
   held-bits = sym (bits-number f x w (subst (λ (t : Bool). T (not t)) (sym no-nan) tt))
 
   held-below : floatBits f x w < 2 * signOf (fractionOf f) (exponentOf f)
-  held-below = rw (held-bits, ← top-sign f) (toBits-lt f x h)
+  held-below = rw (held-bits, ← sign-top f) (toBits-lt f x h)
 
   held-number : nanOf (fractionOf f) (exponentOf f) (floatBits f x w) ≡ false
   held-number = rw held-bits (sym (nan-pattern f (toBits f x) (toBits-lt f x h)) ∙ ap isNan (ofBits-toBits f x h) ∙ no-nan)

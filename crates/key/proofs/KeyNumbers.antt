@@ -5,7 +5,6 @@ use native.Mathlib.Nat.{mod-eq-of-lt, mod-eq-sub-mod, one-mul, pow-suc}
 use native.Mathlib.Omega.{arith}
 use borrow.Author.Tests.{eq-eqb, ne-eqb, lt-ltb, le-ltb, le-leb, lt-leb}
 use lib.IntN.{ℤ, pos, negsuc}
-use lib.Signed.{mag}
 use lib.Pow.{pow-mono, pow-lt}
 use Rattle.float.specs.Format.{fractionOf, exponentOf, absOf}
 use Rattle.float.specs.Number.{isNone}

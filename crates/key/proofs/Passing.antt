@@ -5,11 +5,10 @@ use mathlib.Core.List.{List, [], _∷_}
 use Prim.Native.Nat.{ℕ, suc}
 use lib.Dec.{eqb}
 use lib.ListN.{length, take, drop}
-use Rattle.float.proofs.Tests.{clash}
 use Rattle.value.specs.declared.Kind.{Kind}
 use Rattle.value.specs.Kinds.{formOf, bytesOf}
 use Rattle.value.specs.Meaning.{valueOf}
-use Rattle.value.specs.Outcome.{Outcome, gives, refuses, refuseIf, mapped}
+use Rattle.value.specs.Outcome.{gives, refuseIf, mapped}
 use Rattle.value.specs.Rules.{eachOf}
 use Rattle.value.proofs.Rules.{chain-mapped}
 use Rattle.record.specs.declared.Shape.{Shape}

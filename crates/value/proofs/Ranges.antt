@@ -22,7 +22,7 @@ use Rattle.value.specs.declared.Kind.the-variants as kind
 use Rattle.value.specs.declared.Value.{Value}
 use Rattle.value.specs.declared.Value.the-variants.{U8, U16, U32, U64, I8, I16, I32, I64, F32, F64}
 use Rattle.value.specs.Kinds.{Form, unsigned, signed, floating, formOf, widthIn, kindOf}
-use Rattle.value.specs.Meaning.{Content, natural, integer, real, contentOf, fitsSigned, floatBits, bitsIn, bitsOf, InRange, fromTwos, wordFor, valueOf}
+use Rattle.value.specs.Meaning.{Content, natural, integer, real, contentOf, fitsSigned, floatBits, bitsIn, InRange, fromTwos, wordFor, valueOf}
 use Rattle.value.proofs.Widths.{Sized}
 use Rattle.value.proofs.TwosComplement.{fits-below, below-fits, from-fits}
 use Rattle.value.proofs.MadeValues.{low-bits}
