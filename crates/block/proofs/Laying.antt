@@ -1,8 +1,7 @@
 -- Numbers laid into bytes, low byte first, from the low byte up.
 use mathlib.Core.Path.{_≡_, refl, _∙_}
-use mathlib.Core.List.{List, [], _∷_, _++_}
+use mathlib.Core.List.{List}
 use Prim.Native.Nat.{ℕ, zero, suc, _+_, _-_, _/_, _%_, _≤_, _<_}
-use native.Mathlib.Nat.{suc-add, add-suc, add-zero}
 use native.Mathlib.Numerals.{add-one}
 use native.Mathlib.Omega.{arith}
 use lib.ListN.{length, set, length-set}
@@ -25,11 +24,6 @@ module _ (old : List ℕ) (to width n : ℕ) where
   unfolding littleEndian
   lay-end now at zero rest h i = i .2
   lay-end now at (suc left) rest h i = absurd (omega arith)
-
--- bytes laid down behind bytes
-pub sets-append : (a b l : List ℕ) (i : ℕ) → sets (sets l i a) (i + length a) b ≡ sets l i (a ++ b)
-sets-append [] b l i = rw (add-zero i) refl
-sets-append (x ∷ a) b l i = rw (add-suc i (length a), ← suc-add i (length a)) (sets-append a b (set l i x) (suc i))
 
 -- ---- numbers of two and four bytes
 

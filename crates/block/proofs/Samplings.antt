@@ -13,8 +13,8 @@ use Rattle.value.proofs.Widths.{bytes-range}
 use Rattle.sample.proofs.Samplings.{sample-inside}
 use Rattle.bytewise.specs.Numbers.{littleEndian}
 use Rattle.block.specs.Output.{bytesFor}
+use Rattle.bytewise.proofs.Laid.{sets-append}
 use Rattle.bytewise.proofs.LittleEndian.{length-little}
-use Rattle.block.proofs.Laying.{sets-append}
 
 pub room-inside : (k : Kind) {n l : ℕ} → n ≤ l / bytesOf k → n * bytesOf k ≤ l
 room-inside k h = le-div-iff-mul-le (bytes-range k .0) .0 h

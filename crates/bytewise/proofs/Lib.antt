@@ -1,3 +1,4 @@
 pub mod BigEndian
 pub mod LittleEndian
 pub mod LowerKey
+pub mod Laid

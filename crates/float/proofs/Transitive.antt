@@ -1,16 +1,20 @@
--- Less and Greater are transitive, of integers and of numbers; the order of integers has three answers.
+-- Less and Greater are transitive, of integers and of numbers, and no integer is less than itself; the order of integers has three answers.
 use mathlib.Core.Path.{_≡_, refl, sym}
 use mathlib.Core.Logic.{_⊎_, inl, inr}
 use mathlib.Core.Bool.{Bool, true, false, cond, true≢false}
 use native.Mathlib.Omega.{arith}
-use borrow.Author.Tests.{lt-ltb, ltb-true}
+use borrow.Author.Tests.{lt-ltb, le-ltb, ltb-true}
 use lib.IntN.{ℤ, pos, negsuc}
 use lib.Signed.{ltZ}
 use Rattle.float.specs.Number.{Number, none, minusInfinity, plusInfinity, number}
 use Rattle.float.specs.Order.{orderZ, orderOf}
 use Rattle.float.specs.declared.Order.the-variants.{Less, Equal, Greater}
 
-lt-trans : (k m n : ℤ) → ltZ k m ≡ true → ltZ m n ≡ true → ltZ k n ≡ true
+pub lt-irreflexive : (n : ℤ) → ltZ n n ≡ false
+lt-irreflexive (pos a) = le-ltb a a (omega arith)
+lt-irreflexive (negsuc a) = le-ltb a a (omega arith)
+
+pub lt-trans : (k m n : ℤ) → ltZ k m ≡ true → ltZ m n ≡ true → ltZ k n ≡ true
 lt-trans (pos a) (pos b) (pos c) h k = lt-ltb a c (omega (arith, ltb-true a b h, ltb-true b c k))
 lt-trans (pos a) (pos b) (negsuc c) h k = k
 lt-trans (pos a) (negsuc b) n h k = absurd (true≢false (sym h))

@@ -31,6 +31,13 @@ module _ {B : Type 0} {P Q : B → Type 0} where
   and-last no-more b p = last-one b p
   and-last (one-more c bs q rest) b p = not-last c (bs ++ (b ∷ [])) (q .0) (q .1) (and-last rest b p)
 
+  -- what is built up in the same three ways holds of such a list
+  pub built-up : {R : List B → Type 0} → R [] → ((b : B) → P b → R (b ∷ [])) → ((b : B) (bs : List B) → P b → Q b → R bs → R (b ∷ bs))
+      → {bs : List B} → AllButLast P Q bs → R bs
+  built-up none one more none-at-all = none
+  built-up none one more (last-one b p) = one b p
+  built-up none one more (not-last b bs p q rest) = more b bs p q (built-up none one more rest)
+
 -- ---- all of it, one after the other
 
 abbrev pub folded : {R B : Type 0} → (R → B → R) → R → List B → R

@@ -18,15 +18,15 @@ use Rattle.value.specs.Outcome.{Outcome, gives, refuses, refuseIf, andThen, Suc
 use Rattle.cmp.specs.Compare.{ltOf, gtOf}
 use Rattle.row.specs.declared.Rowed.{Rowed}
 use Rattle.row.specs.declared.Rowed.the-variants as rowed
-use Rattle.row.specs.Row.{rowedOutcome, rowAnswer, sampleThen}
+use Rattle.row.specs.Row.{rowedOutcome, rowAnswer, sampleThen, howMany}
 use Rattle.look.specs.declared.Seen.{Seen}
 use Rattle.value.specs.Kinds.{bytesOf}
-use Rattle.sample.specs.Samples.{countOf, leftOf, samplesOf, counted, joined}
+use Rattle.sample.specs.Samples.{countOf, leftOf, samplesOf, counted, joined, WholeBlocks, none, last, more}
 use Rattle.sample.specs.Refusals.{bitsTo, answerOf, refusedTo}
 use Rattle.sample.proofs.Samplings.{length-samples}
 use Rattle.sample.proofs.Joining.{left-joined, samples-of-joined, small, no-samples}
 use Rattle.look.specs.Report.{unlikeItself, infinite, minusZero, lowerOf, higherOf, countIf, firstOf, notedOf, nothingSeen, allNoted, leftNoted, lookOf}
-use Rattle.look.specs.ReportTheorem.{Parts, none, last, more, lookedAt, howMany, Best, Tells, LooksDecide}
+use Rattle.look.specs.ReportTheorem.{lookedAt, Best, Tells, LooksDecide}
 use Rattle.look.proofs.Best.{best-of, lower-strict, higher-strict}
 use Rattle.look.proofs.Looking.{noted-joined, noted-none, look-whole, look-left}
 
@@ -42,7 +42,7 @@ module _ (from to : Kind) where
       ∙ ap (allNoted to s) (sym (samples-of-joined from p b whole)) in
       rw (all, left-joined from p b whole) refl
 
-  looked : {bs : List (List ℕ)} → Parts from bs → (s : Seen) → lookedAt from to s bs ≡ lookOf from to s (joined bs)
+  looked : {bs : List (List ℕ)} → WholeBlocks from bs → (s : Seen) → lookedAt from to s bs ≡ lookOf from to s (joined bs)
   looked none s = noted-none to s ∙ ap (allNoted to s) (sym (no-samples from)) ∙ look-whole from to s [] (zero-mod (bytesOf from))
   looked (last b) s = ap (lookOf from to s) (sym (append-nil b))
   looked (more b bs ends rest) s = looked rest (lookOf from to s b) ∙ look-joined s b (joined bs) ends

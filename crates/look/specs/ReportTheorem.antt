@@ -1,6 +1,6 @@
 -- What the theorems on reports speak of: an input that is looked at as blocks, and the bits of what is counted. RULES.md: Report.
-use Prim.Native.Nat.{ℕ, suc, _^_, _<_}
-use mathlib.Core.Bool.{Bool, false, not, cond}
+use Prim.Native.Nat.{ℕ, _^_, _<_}
+use mathlib.Core.Bool.{Bool, false, not}
 use mathlib.Core.Path.{_≡_}
 use mathlib.Core.List.{List, [], _∷_}
 use lib.Dec.{eqb}
@@ -12,29 +12,18 @@ use Rattle.value.specs.Kinds.{kindOf, Form, unsigned, signed, floating, formOf}
 use Rattle.value.specs.Meaning.{bitsOf}
 use Rattle.value.specs.Outcome.{Outcome}
 use Rattle.cmp.specs.Compare.{ltOf, gtOf}
-use Rattle.row.specs.Row.{rowedOutcome, any}
+use Rattle.row.specs.Row.{rowedOutcome, any, howMany}
 use Rattle.look.specs.declared.Found.{Found}
 use Rattle.look.specs.declared.Found.the-variants.{Is, Nothing}
 use Rattle.look.specs.declared.Seen.{Seen}
-use Rattle.sample.specs.Samples.{countOf, leftOf, samplesOf, joined}
+use Rattle.sample.specs.Samples.{countOf, samplesOf, joined, WholeBlocks}
 use Rattle.sample.specs.Refusals.{answerOf, refusedTo}
 use Rattle.look.specs.Report.{says, unlikeItself, infinite, minusZero, nothingSeen, lookOf}
-
--- every block but the last has whole samples only
-pub data Parts (from : Kind) : List (List ℕ) → Type 0 where
-  none : Parts from []
-  last : (b : List ℕ) → Parts from (b ∷ [])
-  more : (b : List ℕ) (bs : List (List ℕ)) → leftOf from b ≡ 0 → Parts from bs → Parts from (b ∷ bs)
 
 -- the blocks, one after the other
 abbrev pub lookedAt : Kind → Kind → Seen → List (List ℕ) → Seen
 lookedAt from to s [] = s
 lookedAt from to s (b ∷ bs) = lookedAt from to (lookOf from to s b) bs
-
--- how many pass a test
-unfoldable pub howMany : {A : Type 0} → (A → Bool) → List A → ℕ
-howMany test [] = 0
-howMany test (x ∷ xs) = cond (test x) (suc (howMany test xs)) (howMany test xs)
 
 -- what is found is a number, it is one of the samples, and none passes the test against it; nothing is found where no sample is a number
 abbrev pub Best : (Value → Value → Outcome Bool) → List Value → Found → Type 0
@@ -57,7 +46,7 @@ Tells from to bytes s =
 -- looking at the blocks is looking at the whole, which tells this
 abbrev pub LooksDecide : Type 0
 LooksDecide =
-    (from to : Kind) (bs : List (List ℕ)) → Parts from bs → length (joined bs) < 2 ^ 64
+    (from to : Kind) (bs : List (List ℕ)) → WholeBlocks from bs → length (joined bs) < 2 ^ 64
     → (lookedAt from to nothingSeen bs ≡ lookOf from to nothingSeen (joined bs))
     × Tells from to (joined bs) (lookOf from to nothingSeen (joined bs))
 

@@ -15,6 +15,7 @@ use Rattle.value.specs.Kinds.{bytesOf}
 use Rattle.value.specs.Outcome.{Outcome, gives, refuses, refuseIf, andThen, mapped, Success, done, lentAfter}
 use Rattle.value.proofs.Widths.{bytes-range}
 use Rattle.row.specs.Row.{rowedOutcome, rowAnswer, rowResults}
+use Rattle.sample.specs.Samples as whole
 use Rattle.sample.specs.Samples.{countOf, leftOf, samplesOf, joined}
 use Rattle.sample.specs.Refusals.{bitsTo, answerOf}
 use Rattle.sample.proofs.Samplings.{length-samples}
@@ -26,7 +27,7 @@ use Rattle.row.proofs.Rows.{results-length}
 use Rattle.block.proofs.Whole.{blocks-decide}
 use Rattle.look.specs.declared.Seen.{Seen}
 use Rattle.look.specs.Report.{nothingSeen, lookOf}
-use Rattle.look.specs.ReportTheorem as parts
+use Rattle.look.specs.ReportTheorem.{lookedAt, Tells}
 use Rattle.look.proofs.Looked.{looks-decide}
 use Rattle.migration.specs.declared.blocks.Fault.{Fault}
 use Rattle.migration.specs.declared.blocks.Fault.the-variants.{Nothing}
@@ -38,7 +39,7 @@ use Rattle.migration.specs.Runs.{Moving, handed, MovesBlock, MoveFails, 
 use Rattle.migration.proofs.Sizes.{block-room, fewer-room}
 use Rattle.migration.proofs.Places.{told-next}
 use Rattle.input.specs.Chain.{begins, takes, fails}
-use Rattle.input.proofs.Chains.{AllButLast, none-at-all, last-one, not-last, shape, folded, leads}
+use Rattle.input.proofs.Chains.{built-up, shape, folded, leads}
 
 -- ---- a block
 
@@ -126,21 +127,11 @@ module _ (from to : Kind) where
   run-folded [] r = refl
   run-folded (b ∷ bs) r = run-folded bs (stepped from to bufferBytes r b)
 
-  blocks : {bs : List (List ℕ)} → AllButLast (λ b. countOf from b ≤ bufferBytes / bytesOf to) (λ b. leftOf from b ≡ 0) bs → Blocks from to bufferBytes bs
-  blocks none-at-all = none
-  blocks (last-one b p) = last b p
-  blocks (not-last b bs p q rest) = more b bs p q (blocks rest)
-
   -- ---- a report
 
-  looked-folded : (bs : List (List ℕ)) (s : Seen) → folded (lookOf from to) s bs ≡ parts.lookedAt from to s bs
+  looked-folded : (bs : List (List ℕ)) (s : Seen) → folded (lookOf from to) s bs ≡ lookedAt from to s bs
   looked-folded [] s = refl
   looked-folded (b ∷ bs) s = looked-folded bs (lookOf from to s b)
-
-in-parts : (from : Kind) {bs : List (List ℕ)} → AllButLast (λ b. Unit {0}) (λ b. leftOf from b ≡ 0) bs → parts.Parts from bs
-in-parts from none-at-all = parts.none
-in-parts from (last-one b p) = parts.last b
-in-parts from (not-last b bs p q rest) = parts.more b bs q (in-parts from rest)
 
 -- ---- the theorems
 
@@ -148,7 +139,7 @@ run-answers : (from to : Kind) (bs : List (List ℕ)) (m : Moving) → Ran from 
     → (m .state .progress .samples ≡ countOf from (joined bs))
     × (mapped (λ d. m .written) (rowedOutcome (m .state .progress .answer)) ≡ migrateOf from to (joined bs))
 run-answers from to bs m ran short =
-    let shaped = blocks from to
+    let shaped = built-up {R = Blocks from to bufferBytes} none last more
     (shape (λ s next b t. fits from to b (t .0))
     (λ s next b t h. ends-whole from to b (next .state .turns) (s .state .turns) (next .state .fault) (t .3 .4) h) (λ s next f. f .0 .3) ran) in
     let led : runOf from to bufferBytes start bs ≡ standing from to m =
@@ -207,10 +198,11 @@ run-decides from to bs m ran short =
 
 pub look-decides : LookDecides
 look-decides from to bs r looked short =
-    let shaped = in-parts from
-    (shape (λ s next b t. tt) (λ s next b t h. ends-whole from from b (next .turns) (s .turns) Nothing (t .1 .2) h) (λ s next f. f .2) looked) in
+    let shaped = built-up {R = whole.WholeBlocks from} whole.none (λ b p. whole.last b) (λ b bs p. whole.more b bs)
+    (shape {P = λ b. Unit {0}} (λ s next b t. tt)
+    (λ s next b t h. ends-whole from from b (next .turns) (s .turns) Nothing (t .1 .2) h) (λ s next f. f .2) looked) in
     let led : lookOf from to nothingSeen (joined bs) ≡ r .seen =
     sym (looks-decide from to bs shaped short .0)
     ∙ sym (looked-folded from to bs nothingSeen)
     ∙ leads (lookOf from to) (λ s. s .seen) (λ s next b t. sym (t .1 .0)) (λ s next f. sym (f .0)) looked in
-    subst (parts.Tells from to (joined bs)) led (looks-decide from to bs shaped short .1)
+    subst (Tells from to (joined bs)) led (looks-decide from to bs shaped short .1)

@@ -1,4 +1,6 @@
 pub mod Scan
+pub mod HowMany
+pub mod Picked
 pub mod Written
 pub mod Rows
 pub mod ConvertRow

@@ -42,3 +42,8 @@ first test (x ∷ xs) = cond (test x) 0 (suc (first test xs))
 unfoldable pub any : {A : Type 0} → (A → Bool) → List A → Bool
 any test [] = false
 any test (x ∷ xs) = test x || any test xs
+
+-- how many pass it
+unfoldable pub howMany : {A : Type 0} → (A → Bool) → List A → ℕ
+howMany test [] = 0
+howMany test (x ∷ xs) = cond (test x) (suc (howMany test xs)) (howMany test xs)

@@ -1,6 +1,6 @@
 -- Where the samples of a string of bytes stand.
 use mathlib.Core.Path.{_≡_, refl, sym, _∙_, ap, subst}
-use mathlib.Core.List.{List, [], _∷_, map}
+use mathlib.Core.List.{List, [], _∷_, _++_, map}
 use Prim.Native.Nat.{ℕ, zero, suc, _+_, _*_, _≤_, _<_}
 use native.Mathlib.Nat.{div-mul-le-self, zero-mul, mul-zero, suc-mul, mul-suc, add-comm, le-trans, mul-le-mul-right, le-of-suc-le-suc, not-suc-le-zero}
 use native.Mathlib.Omega.{arith}
@@ -33,13 +33,25 @@ unfolding numbersIn
 length-numbers w zero bytes = refl
 length-numbers w (suc n) bytes = ap suc (length-numbers w n (drop w bytes))
 
+-- past one sample, and past i more
+past : (w i : ℕ) (bytes : List ℕ) → drop (i * w) (drop w bytes) ≡ drop (suc i * w) bytes
+past w i bytes = drop-drop (i * w) w bytes ∙ ap (λ (m : ℕ). drop m bytes) (add-comm w (i * w) ∙ sym (suc-mul i w))
+
 pub number-here : (w n : ℕ) (bytes : List ℕ) (i d : ℕ) → i < n → getD (numbersIn w n bytes) i d ≡ fromLittleEndian (take w (drop (i * w) bytes))
 unfolding numbersIn
 number-here w zero bytes i d h = absurd (not-suc-le-zero h)
 number-here w (suc n) bytes zero d h = rw (zero-mul w) refl
 number-here w (suc n) bytes (suc i) d h =
     number-here w n (drop w bytes) i d (le-of-suc-le-suc h)
-    ∙ ap (λ (l : List ℕ). fromLittleEndian (take w l)) (drop-drop (i * w) w bytes ∙ ap (λ (m : ℕ). drop m bytes) (add-comm w (i * w) ∙ sym (suc-mul i w)))
+    ∙ ap (λ (l : List ℕ). fromLittleEndian (take w l)) (past w i bytes)
+
+-- one number more
+pub numbers-last : (w n : ℕ) (bytes : List ℕ) → numbersIn w (suc n) bytes ≡ numbersIn w n bytes ++ (fromLittleEndian (take w (drop (n * w) bytes)) ∷ [])
+unfolding numbersIn
+numbers-last w zero bytes = rw (zero-mul w) refl
+numbers-last w (suc n) bytes =
+    ap (λ (l : List ℕ). fromLittleEndian (take w bytes) ∷ l)
+    (numbers-last w n (drop w bytes) ∙ ap (λ (l : List ℕ). numbersIn w n (drop w bytes) ++ (fromLittleEndian (take w l) ∷ [])) (past w n bytes))
 
 pub numbers-take : (w n j : ℕ) (bytes : List ℕ) → j ≤ n → take j (numbersIn w n bytes) ≡ numbersIn w j bytes
 unfolding numbersIn
@@ -69,8 +81,7 @@ sample-here k zero bytes i d h = absurd (not-suc-le-zero h)
 sample-here k (suc n) bytes zero d h = rw (zero-mul (bytesOf k)) refl
 sample-here k (suc n) bytes (suc i) d h =
     sample-here k n (drop (bytesOf k) bytes) i d (le-of-suc-le-suc h)
-    ∙ ap (λ (l : List ℕ). valueOf k (fromLittleEndian (take (bytesOf k) l)))
-    (drop-drop (i * bytesOf k) (bytesOf k) bytes ∙ ap (λ (m : ℕ). drop m bytes) (add-comm (bytesOf k) (i * bytesOf k) ∙ sym (suc-mul i (bytesOf k))))
+    ∙ ap (λ (l : List ℕ). valueOf k (fromLittleEndian (take (bytesOf k) l))) (past (bytesOf k) i bytes)
 
 -- ---- the sample at an index
 

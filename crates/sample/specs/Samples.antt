@@ -1,5 +1,6 @@
 -- Samples in a string of bytes, low byte first. RULES.md: Migration.
 use Prim.Native.Nat.{ℕ, zero, suc, _/_, _%_, _^_}
+use mathlib.Core.Path.{_≡_}
 use mathlib.Core.List.{List, [], _∷_, _++_}
 use lib.ListN.{length, take, drop, getD}
 use Rattle.value.specs.declared.Kind.{Kind}
@@ -39,6 +40,12 @@ sampleAt k bytes i = getD (samplesOf k bytes) i (valueOf k 0)
 abbrev pub joined : List (List ℕ) → List ℕ
 joined [] = []
 joined (b ∷ bs) = b ++ joined bs
+
+-- every block but the last has whole samples only
+pub data WholeBlocks (k : Kind) : List (List ℕ) → Type 0 where
+  none : WholeBlocks k []
+  last : (b : List ℕ) → WholeBlocks k (b ∷ [])
+  more : (b : List ℕ) (bs : List (List ℕ)) → leftOf k b ≡ 0 → WholeBlocks k bs → WholeBlocks k (b ∷ bs)
 
 -- a count of samples is a machine number; no input has 2^64 of them
 abbrev pub counted : ℕ → ℕ

@@ -8,7 +8,7 @@ use native.Mathlib.Omega.{arith}
 use borrow.Author.Tests.{lt-ltb, le-ltb, le-leb}
 use lib.Dec.{T}
 use lib.IntN.{ℤ, pos, negsuc, natAbs, _-ℤ_}
-use lib.Signed.{mag, leZ, nonNeg}
+use lib.Signed.{mag, leZ, nonNeg, pos-natAbs}
 use mir.Syntax.{Width, w64}
 use mir.Val.{Fits, SFits, hbits, toZ, ofZ}
 use mir.ValLaws.{toZ-ofZ, half-full}
@@ -30,52 +30,47 @@ below-fits half (negsuc n) h = h
 complement : (n : ℕ) → negsuc 0 -ℤ negsuc n ≡ pos n
 complement n = let q : suc n - 1 ≡ n = omega arith in simp (le-ltb (suc n) 1 (omega arith), q)
 
-natural : (z : ℤ) → SFits w64 z → leZ (pos 0) z ≡ true → T (nonNeg z) × Fits w64 (natAbs z)
-natural (pos n) f h = (tt, record { fits = half-full w64 (f .sfits) })
+natural : {w : Width} (z : ℤ) → SFits w z → leZ (pos 0) z ≡ true → T (nonNeg z) × Fits w (natAbs z)
+natural {w} (pos n) f h = (tt, record { fits = half-full w (f .sfits) })
 natural (negsuc n) f h = absurd (true≢false (sym h))
 
-natural-twos : (ones : ℕ) (z : ℤ) → leZ (pos 0) z ≡ true → natAbs z ≡ twosOf ones z
-natural-twos ones (pos n) h = refl
-natural-twos ones (negsuc n) h = absurd (true≢false (sym h))
-
-negative : (z : ℤ) → leZ (pos 0) z ≡ false → negsuc 0 -ℤ z ≡ pos (mag z)
+negative : (z : ℤ) → leZ (pos 0) z ≡ false → negsuc (mag z) ≡ z
 negative (pos n) h = absurd (true≢false (sym (le-leb 0 n (omega arith)) ∙ h))
-negative (negsuc n) h = complement n
+negative (negsuc n) h = refl
 
-negative-twos : (ones : ℕ) (z : ℤ) → leZ (pos 0) z ≡ false → ones - mag z ≡ twosOf ones z
-negative-twos ones (pos n) h = absurd (true≢false (sym (le-leb 0 n (omega arith)) ∙ h))
-negative-twos ones (negsuc n) h = refl
+module _ {w : Width} (z : ℤ) (f : SFits w z) where
+  read : toZ w (ofZ w z) ≡ z
+  read = toZ-ofZ w z f
 
-module _ (z : ℤ) (f : SFits w64 z) where
-  read : toZ w64 (ofZ w64 z) ≡ z
-  read = toZ-ofZ w64 z f
-
-  module _ (h : leZ (pos 0) (toZ w64 (ofZ w64 z)) ≡ true) where
-    pub natural-cast : T (nonNeg (toZ w64 (ofZ w64 z))) × Fits w64 (natAbs (toZ w64 (ofZ w64 z)))
+  module _ (h : leZ (pos 0) (toZ w (ofZ w z)) ≡ true) where
+    pub natural-cast : T (nonNeg (toZ w (ofZ w z))) × Fits w (natAbs (toZ w (ofZ w z)))
     natural-cast = rw read (natural z f (rw read at h))
 
-    pub natural-is : (ones : ℕ) → natAbs (toZ w64 (ofZ w64 z)) ≡ twosOf ones z
-    natural-is ones = rw read (natural-twos ones z (rw read at h))
+    pub natural-self : pos (natAbs (toZ w (ofZ w z))) ≡ z
+    natural-self = pos-natAbs (toZ w (ofZ w z)) (natural-cast .0) ∙ read
 
-  module _ (h : leZ (pos 0) (toZ w64 (ofZ w64 z)) ≡ false) where
-    turned : negsuc 0 -ℤ toZ w64 (ofZ w64 z) ≡ pos (mag z)
-    turned = rw read (negative z (rw read at h))
+  module _ (h : leZ (pos 0) (toZ w (ofZ w z)) ≡ false) where
+    pub negative-self : negsuc (mag z) ≡ z
+    negative-self = negative z (rw read at h)
 
-    pub negative-fits : SFits w64 (negsuc 0 -ℤ toZ w64 (ofZ w64 z))
+    turned : negsuc 0 -ℤ toZ w (ofZ w z) ≡ pos (mag z)
+    turned = rw read (ap (λ (y : ℤ). negsuc 0 -ℤ y) (sym negative-self) ∙ complement (mag z))
+
+    pub negative-fits : SFits w (negsuc 0 -ℤ toZ w (ofZ w z))
     negative-fits = rw turned (record { sfits = f .sfits })
 
-    pub twice : toZ w64 (ofZ w64 (negsuc 0 -ℤ toZ w64 (ofZ w64 z))) ≡ pos (mag z)
-    twice = toZ-ofZ w64 _ negative-fits ∙ turned
+    pub twice : toZ w (ofZ w (negsuc 0 -ℤ toZ w (ofZ w z))) ≡ pos (mag z)
+    twice = toZ-ofZ w _ negative-fits ∙ turned
 
-    pub negative-cast : T (nonNeg (toZ w64 (ofZ w64 (negsuc 0 -ℤ toZ w64 (ofZ w64 z)))))
-        × Fits w64 (natAbs (toZ w64 (ofZ w64 (negsuc 0 -ℤ toZ w64 (ofZ w64 z)))))
-    negative-cast = rw twice (tt, record { fits = half-full w64 (f .sfits) })
+    pub negative-cast : T (nonNeg (toZ w (ofZ w (negsuc 0 -ℤ toZ w (ofZ w z)))))
+        × Fits w (natAbs (toZ w (ofZ w (negsuc 0 -ℤ toZ w (ofZ w z)))))
+    negative-cast = rw twice (tt, record { fits = half-full w (f .sfits) })
 
-    pub negative-below : (ones : ℕ) → mag z ≤ ones → natAbs (toZ w64 (ofZ w64 (negsuc 0 -ℤ toZ w64 (ofZ w64 z)))) ≤ ones
+    pub negative-below : (ones : ℕ) → mag z ≤ ones → natAbs (toZ w (ofZ w (negsuc 0 -ℤ toZ w (ofZ w z)))) ≤ ones
     negative-below ones l = rw twice l
 
-    pub negative-is : (ones : ℕ) → ones - natAbs (toZ w64 (ofZ w64 (negsuc 0 -ℤ toZ w64 (ofZ w64 z)))) ≡ twosOf ones z
-    negative-is ones = rw twice (negative-twos ones z (rw read at h))
+    pub negative-is : (ones : ℕ) → ones - natAbs (toZ w (ofZ w (negsuc 0 -ℤ toZ w (ofZ w z)))) ≡ twosOf ones z
+    negative-is ones = rw twice (ap (twosOf ones) negative-self)
 
 -- ---- a signed number that two widths hold, cast from one to the other
 

@@ -1,5 +1,7 @@
 -- From 0 on z is its own pattern; below, -1 - z is its magnitude less one.
-use Rattle.value.proofs.TwosComplement.{natural-cast, natural-is, negative-fits, negative-cast, negative-below, negative-is}
+use mathlib.Core.Path.{ap}
+use Rattle.value.specs.Meaning.{twosOf}
+use Rattle.value.proofs.TwosComplement.{natural-cast, natural-self, negative-fits, negative-cast, negative-below, negative-is}
 use Rattle.value.proofs.patterns.twos.Statement.{statement}
 use Rattle.value.proofs.patterns.twos.Tie as tie
 
@@ -16,7 +18,7 @@ sub-result-2 : tie.Need-sub-result-2
 sub-result-2 c = negative-below _ (c .before .fits .z) (c .if1 .left) _ (c .before .pre)
 
 returns : tie.Need-returns
-returns c = natural-is _ (c .before .fits .z) (c .if1 .taken) _
+returns c = ap (twosOf _) (natural-self _ (c .before .fits .z) (c .if1 .taken))
 
 returns-2 : tie.Need-returns-2
 returns-2 c = negative-is _ (c .before .fits .z) (c .if1 .left) _
