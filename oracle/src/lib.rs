@@ -19,5 +19,6 @@ pub mod random;
 pub mod rules;
 #[cfg(test)]
 mod second_opinion;
+pub mod sheet;
 pub mod text;
 pub mod value;

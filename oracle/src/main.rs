@@ -6,7 +6,7 @@ use std::io::{self, BufWriter, Write};
 use std::process::ExitCode;
 
 use oracle::cases::Cases;
-use oracle::{check, fixed, lines, order, program};
+use oracle::{check, fixed, lines, order, program, sheet};
 
 const USAGE: &str = "\
 usage: oracle cases SEED COUNT            case lines made from a seed
@@ -15,6 +15,8 @@ usage: oracle cases SEED COUNT            case lines made from a seed
        oracle compare SEED COUNT PROGRAM  a program's answers against ours
        oracle soak SECONDS PROGRAM        the same, seed after seed for that time
        oracle order SEED COUNT PROGRAM    the order of a program's keys against comparison
+       oracle sheet                       the sheet of the f32 samples on standard input
+       oracle strips SEED COUNT PROGRAM   a program's sheets of made strips against ours
 PROGRAM may have arguments behind it.
 ";
 
@@ -58,6 +60,12 @@ fn run(arguments: &[OsString], out: &mut impl Write) -> Option<io::Result<bool>>
         }
         ("order", [seed, count, program @ ..]) if !program.is_empty() => {
             order::order(number(seed)?, number(count)?, program, out)
+        }
+        ("sheet", []) => sheet::sheet(io::stdin().lock())
+            .and_then(|lines| out.write_all(lines.as_bytes()))
+            .map(|()| true),
+        ("strips", [seed, count, program @ ..]) if !program.is_empty() => {
+            sheet::strips(number(seed)?, number(count)?, program, out)
         }
         _ => return None,
     })

@@ -53,7 +53,7 @@ where
 }
 
 /// The first word is the program's name, the others are its arguments.
-fn start(words: &[OsString]) -> io::Result<Child> {
+pub fn start(words: &[OsString]) -> io::Result<Child> {
     let (program, arguments) = words
         .split_first()
         .ok_or_else(|| io::Error::new(io::ErrorKind::InvalidInput, "no program"))?;

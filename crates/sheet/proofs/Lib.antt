@@ -1,0 +1,4 @@
+pub mod Spelled
+pub mod Laid
+pub mod Turns
+pub mod RunTells
