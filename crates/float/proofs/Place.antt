@@ -47,7 +47,7 @@ position-pattern p e (negsuc x) h =
     let q : x ≡ absOf p e (2 ^ (p + e) + x) = rw (abs-set p e (2 ^ (p + e) + x) g) (omega arith) in
     sym (position-set p e (2 ^ (p + e) + x) q g)
 
--- no position lies outside the width
+-- the sign apart, the position is abs
 pub mag-position : (p e b : ℕ) → mag (positionOf p e b) ≡ absOf p e b
 unfolding positionOf
 mag-position p e b = either (negativeOf p e b) (absOf p e b)
@@ -56,6 +56,7 @@ mag-position p e b = either (negativeOf p e b) (absOf p e b)
     either true x = refl
     either false x = refl
 
+-- no position lies outside the width
 pub position-fits : (p e b : ℕ) → b < 2 * 2 ^ (p + e) → mag (positionOf p e b) < 2 ^ (p + e)
 position-fits p e b h = rw (mag-position p e b) (abs-lt p e b h)
 
