@@ -9,7 +9,7 @@ ghost use Rattle.float.specs.Format.{zeroOf, subnormalOf, normalOf};
 ghost use Rattle.bytewise.specs.Numbers.{fromLittleEndian};
 ghost use Rattle.sample.specs.Samples.{numbersIn};
 ghost use Rattle.strip.specs.Sheet.{most, sheetAfter};
-ghost use Rattle.strip.specs.Inner.{tallyOf, topEnd, bottomEnd, placeOf, gtZ, startAt, bitsAt, foundAt};
+ghost use Rattle.strip.specs.Inner.{tallyOf, placeOf, gtZ, startAt, bitsAt, foundAt};
 use crate::Extreme;
 use crate::MOST;
 use crate::Sheet;
@@ -66,21 +66,12 @@ fn is_normal(bits: u32) -> bool
     (0x0080_0000 <= x) & (x < 0x7f80_0000)
 }
 
-fn low_place(bits: u32) -> i32
-    ensures { λ r. ⌜ r ≡ placeOf topEnd bits ⌝ }
+// Its position; a NaN counts as an end.
+fn place_of(bits: u32, end: i32) -> i32
+    ensures { λ r. ⌜ r ≡ placeOf end bits ⌝ }
 {
     if is_nan_f32(bits) {
-        i32::MAX
-    } else {
-        position_f32(bits)
-    }
-}
-
-fn high_place(bits: u32) -> i32
-    ensures { λ r. ⌜ r ≡ placeOf bottomEnd bits ⌝ }
-{
-    if is_nan_f32(bits) {
-        i32::MIN
+        end
     } else {
         position_f32(bits)
     }
@@ -126,8 +117,8 @@ fn go_over(src: &[u8], n: usize, lowest: i32, highest: i32) -> Tally
         normal += one_if(is_normal(bits));
         infinite += one_if(is_infinite_f32(bits));
         nan += one_if(is_nan_f32(bits));
-        low = lesser(low_place(bits), low);
-        high = greater(high_place(bits), high);
+        low = lesser(place_of(bits, i32::MAX), low);
+        high = greater(place_of(bits, i32::MIN), high);
         i += 1;
     }
     Tally {

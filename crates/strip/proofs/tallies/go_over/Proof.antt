@@ -86,8 +86,8 @@ loop-again c =
       next read (normalOf 23 8) (inv .2) (normal .before .is-normal .ensures) (normal .one-if3 .ensures) .0,
       next read (infiniteOf 23 8) (inv .3) (infinite .before .is-infinite-f32 .ensures) (infinite .one-if4 .ensures) .0,
       next read (nanOf 23 8) (inv .4) (nan .before .is-nan-f32 .ensures) (nan .one-if5 .ensures) .0,
-      so-far-next (inv .5) turn word (lowest .before .low-place .ensures) (search needs) (search needs) (lowest .lesser .ensures),
-      so-far-next (inv .6) turn word (c .before .high-place .ensures) (search needs) (search needs) (c .greater .ensures),
+      so-far-next (inv .5) turn word (lowest .before .place-of .ensures) (search needs) (search needs) (lowest .lesser .ensures),
+      so-far-next (inv .6) turn word (c .before .place-of2 .ensures) (search needs) (search needs) (c .greater .ensures),
     )
 
 returns : tie.Need-returns Inv-loop μ-loop
