@@ -3,8 +3,8 @@ use mathlib.Core.Bool.{not, _||_, cond}
 use mathlib.Core.List.{List, [], _∷_}
 use lib.Ieee.{Float, binary32, toBits, ofBits}
 use Rattle.float.specs.declared.Order.{Order}
-use Rattle.float.specs.Order.{isLess, isLessOrEqual, isGreater}
-use Rattle.float.specs.Order as patterns
+use Rattle.float.specs.Format.{f32}
+use Rattle.float.specs.Order.{compareIn, isLess, isLessOrEqual, isGreater}
 use Rattle.value.specs.declared.Value.{Value}
 use Rattle.value.specs.Outcome.{Outcome, gives, refusalOf}
 use Rattle.value.specs.Rules.{Rule, rule, chain}
@@ -33,7 +33,7 @@ sampledOutcome (sampled.Refused f) = refusalOf f
 
 -- the order of two f32 samples is that of their bits
 abbrev pub sampleOrder : Float → Float → Order
-sampleOrder x y = patterns.compareOf 23 8 (toBits binary32 x) (toBits binary32 y)
+sampleOrder x y = compareIn f32 (toBits binary32 x) (toBits binary32 y)
 
 -- ---- the choice
 

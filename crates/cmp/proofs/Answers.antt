@@ -4,14 +4,12 @@ use mathlib.Core.Bool.{Bool, true, false}
 use Prim.Native.Nat.{ℕ}
 use lib.Dec.{T}
 use lib.IntN.{ℤ}
-use lib.Ieee.{Format}
 use types.Run.{OneOf}
 use denote.Enum.Declared.{tagOf}
 use Rattle.float.specs.declared.Order.{Order}
-use Rattle.float.specs.Format.{fractionOf, exponentOf}
-use Rattle.float.specs.Order.{orderZ, orderOf, patternOf, answer}
+use Rattle.float.specs.Format.{Format}
+use Rattle.float.specs.Order.{orderZ, orderOf, answer, compareIn, patternIn}
 use Rattle.float.specs.Number.{times}
-use Rattle.float.specs.Order as patterns
 use Rattle.value.specs.declared.Kind.{Kind}
 use Rattle.value.specs.declared.Value.{Value}
 use Rattle.value.specs.Kinds.{kindOf, allKinds, formOf, isInteger}
@@ -54,10 +52,10 @@ module _ {a a' b b' : Value} (q : a ≡ a') (u : b ≡ b') (k : kindOf a' ≡ ki
   compare-integers y z v w h = compare-given (h ∙ integers-order y z ∙ sym (cc (v, w)))
 
   pub compare-floats : (f : Format) (m n : ℕ) {o : Order}
-      → exactOf a' ≡ times (stepOf f) (patternOf (fractionOf f) (exponentOf f) m) → exactOf b' ≡ times (stepOf f) (patternOf (fractionOf f) (exponentOf f) n)
-      → {i j : ℕ} → o ≡ patterns.compareOf (fractionOf f) (exponentOf f) i j → i ≡ m → j ≡ n → gives o ≡ compareOf a b
+      → exactOf a' ≡ times (stepOf f) (patternIn f m) → exactOf b' ≡ times (stepOf f) (patternIn f n)
+      → {i j : ℕ} → o ≡ compareIn f i j → i ≡ m → j ≡ n → gives o ≡ compareOf a b
   compare-floats f m n v w {i} {j} h p q =
-      let same : patterns.compareOf (fractionOf f) (exponentOf f) i j ≡ patterns.compareOf (fractionOf f) (exponentOf f) m n = cc (p, q) in
+      let same : compareIn f i j ≡ compareIn f m n = cc (p, q) in
       compare-given (h ∙ same ∙ patterns-order f m n ∙ sym (cc (v, w)))
 
 pub order-at : {i j y z : ℤ} {o : Order} → o ≡ orderZ i j → i ≡ y → j ≡ z → o ≡ orderZ y z

@@ -2,15 +2,14 @@
 use mathlib.Core.Path.{_≡_, refl, sym, _∙_}
 use Prim.Native.Nat.{ℕ, _^_, _≤_}
 use lib.IntN.{ℤ, pos, negsuc}
-use lib.Ieee.{Format}
 use mir.Syntax.{Width, w64}
 use mir.Val.{SFits, hbits, toZ, ofZ}
 use mir.ValLaws.{toZ-ofZ}
 use Rattle.float.specs.declared.Order.{Order}
-use Rattle.float.specs.Format.{fractionOf, exponentOf}
+use Rattle.float.specs.Format.{Format}
 use Rattle.float.specs.Number.{times}
 use Rattle.float.specs.Number as float-number
-use Rattle.float.specs.Order.{orderZ, orderOf, patternOf}
+use Rattle.float.specs.Order.{orderZ, orderOf, compareIn, patternIn}
 use Rattle.float.specs.Order as patterns
 use Rattle.value.specs.declared.Value.{Value}
 use Rattle.value.specs.declared.Value.the-variants.{U8, U16, U32, U64, I8, I16, I32, I64, F32, F64}
@@ -32,11 +31,11 @@ integers-order y z = sym (times-order unit unit-pos (wholeOf y) (wholeOf z) ∙ 
 
 -- two patterns of one format
 pub patterns-order : (f : Format) (a b : ℕ)
-    → patterns.compareOf (fractionOf f) (exponentOf f) a b
-    ≡ orderOf (float-number.numberOf (times (stepOf f) (patternOf (fractionOf f) (exponentOf f) a)))
-    (float-number.numberOf (times (stepOf f) (patternOf (fractionOf f) (exponentOf f) b)))
+    → compareIn f a b
+    ≡ orderOf (float-number.numberOf (times (stepOf f) (patternIn f a)))
+    (float-number.numberOf (times (stepOf f) (patternIn f b)))
 unfolding patterns.compareOf
-patterns-order f a b = sym (times-order (stepOf f) (step-pos f) (patternOf (fractionOf f) (exponentOf f) a) (patternOf (fractionOf f) (exponentOf f) b))
+patterns-order f a b = sym (times-order (stepOf f) (step-pos f) (patternIn f a) (patternIn f b))
 
 -- an integer kind's position is its number
 pub whole-position : (v : Value) → Whole v → exactOf v ≡ times unit (wholeOf (positionOf v))

@@ -10,14 +10,14 @@ use lib.Dec.{eqb}
 use lib.IntN.{ℤ, pos, negsuc, negℤ, natAbs}
 use lib.Signed.{mag}
 use lib.Pow.{pow-pos}
-use lib.Ieee.{Format}
-use Rattle.float.specs.Format.{fractionOf, exponentOf, signOf, infOf, negativeOf, absOf, magOf}
-use Rattle.float.specs.ClassMeaning.{largestOf}
+use Rattle.float.specs.Format.{Format, fractionOf, exponentOf, absIn, infIn, magIn, negativeIn, signIn}
+use Rattle.float.specs.ClassMeaning.{largestIn}
 use Rattle.float.specs.Number.{Exact, notNumber, infinite, finite, isNone, times, none, number, infinityOf, numberOf, signedOf}
-use Rattle.float.specs.Order.{patternOf}
+use Rattle.float.specs.Order.{patternIn}
 use Rattle.float.proofs.Naturals.{three-ways}
 use Rattle.float.proofs.Magnitude.{abs-signed, mag-grows, mag-largest}
 use Rattle.float.proofs.Comparing.{pattern-nan, pattern-infinite, pattern-finite}
+use Rattle.float.proofs.Formats.{two-or-more, inf-range}
 use Rattle.float.proofs.Tests.{clash}
 use Rattle.value.specs.Kinds.{Form, unsigned, signed, floating, isInteger}
 use Rattle.value.specs.Meaning.{wholeOf, unit, stepOf}
@@ -28,7 +28,7 @@ use Rattle.value.proofs.Outcomes.{refuse-passes}
 use Rattle.convert.specs.Convert.{intoRules, isInfinite, hasFraction, outside, outOfRange, notHeld, heldIn, patternFor, signFor}
 use Rattle.convert.specs.Convert.{magnitudeFor, absFor, integerFor}
 use Rattle.convert.proofs.Encode.{held-of}
-use Rattle.convert.proofs.Patterns.{two-or-more, inf-range, made-small, encode-below, finite-made, infinite-made}
+use Rattle.convert.proofs.Patterns.{made-small, encode-below, finite-made, infinite-made}
 
 -- none of the five rules holds
 pub record Accepted (form : Form) (x : Exact) : Type 0 where
@@ -54,7 +54,7 @@ rules-give form x result a = simp (a .some-number, a .no-infinity, a .no-fractio
 abbrev pub exactFor : Form → Exact → Exact
 exactFor (unsigned k) x = times unit (wholeOf (pos (magnitudeFor x)))
 exactFor (signed k) x = times unit (wholeOf (integerFor x))
-exactFor (floating f) x = times (stepOf f) (patternOf (fractionOf f) (exponentOf f) (patternFor f x))
+exactFor (floating f) x = times (stepOf f) (patternIn f (patternFor f x))
 
 -- ---- signs and magnitudes
 
@@ -123,12 +123,12 @@ signed-fits k (finite true m) a = minus-fits (2 ^ (k - 1)) (m / unit) (pow-pos (
 signed-fits k (finite false m) a = let l : m / unit ≤ 2 ^ (k - 1) - 1 = ltb-false _ _ (a .in-range) in omega (arith, pow-pos (k - 1))
 
 -- the abs lies below the sign bit, so the pattern has the format's bits
-pub abs-small : (f : Format) (x : Exact) → Accepted (floating f) x → absFor f x < signOf (fractionOf f) (exponentOf f)
+pub abs-small : (f : Format) (x : Exact) → Accepted (floating f) x → absFor f x < signIn f
 abs-small f notNumber a = absurd (true≢false (a .some-number))
 abs-small f (infinite s) a = inf-range f .1
 abs-small f (finite s m) a = omega (arith, inf-range f .1, encode-below f m (ltb-false _ _ (a .in-range)) (not-false _ (a .held)))
 
-pub pattern-small : (f : Format) (x : Exact) → Accepted (floating f) x → patternFor f x < 2 * signOf (fractionOf f) (exponentOf f)
+pub pattern-small : (f : Format) (x : Exact) → Accepted (floating f) x → patternFor f x < 2 * signIn f
 pattern-small f x a = made-small f (signFor x) (absFor f x) (abs-small f x a)
 
 -- ---- some value has the number: accepted
@@ -194,38 +194,38 @@ accepts-signed k z (finite s m) l h =
     }
 
 -- the magnitude is that of the abs of a finite pattern
-finite-magnitude : (f : Format) (c : ℕ) (s : Bool) (m : ℕ) → numberOf (times (stepOf f) (patternOf (fractionOf f) (exponentOf f) c)) ≡ numberOf (finite s m)
-    → (absOf (fractionOf f) (exponentOf f) c < infOf (fractionOf f) (exponentOf f))
-    × (m ≡ magOf (fractionOf f) (absOf (fractionOf f) (exponentOf f) c) * stepOf f)
-finite-magnitude f c s m h = elim (three-ways (absOf (fractionOf f) (exponentOf f) c) (infOf (fractionOf f) (exponentOf f))) [
+finite-magnitude : (f : Format) (c : ℕ) (s : Bool) (m : ℕ) → numberOf (times (stepOf f) (patternIn f c)) ≡ numberOf (finite s m)
+    → (absIn f c < infIn f)
+    × (m ≡ magIn f (absIn f c) * stepOf f)
+finite-magnitude f c s m h = elim (three-ways (absIn f c) (infIn f)) [
   | inl l ↦
-      let n = magOf (fractionOf f) (absOf (fractionOf f) (exponentOf f) c) * stepOf f in
-      let t = negativeOf (fractionOf f) (exponentOf f) c in
+      let n = magIn f (absIn f c) * stepOf f in
+      let t = negativeIn f c in
       let g : number (signedOf t n) ≡ numberOf (finite s m) =
       ap (λ (x : Exact). numberOf (times (stepOf f) x)) (sym (pattern-finite (fractionOf f) (exponentOf f) c l)) ∙ h in
       (l, sym (signed-mag s m (signedOf t n) g) ∙ abs-signed t n)
-  | inr (inl e) ↦ only-finite (signedOf s m) (negativeOf (fractionOf f) (exponentOf f) c)
+  | inr (inl e) ↦ only-finite (signedOf s m) (negativeIn f c)
       (inr (sym h ∙ ap (λ (x : Exact). numberOf (times (stepOf f) x)) (pattern-infinite (fractionOf f) (exponentOf f) c e)))
   | inr (inr g) ↦ only-finite (signedOf s m) true
       (inl (sym h ∙ ap (λ (x : Exact). numberOf (times (stepOf f) x)) (pattern-nan (fractionOf f) (exponentOf f) c g)))
 ]
 
 pub accepts-float : (f : Format) (c : ℕ) (x : Exact) → isNone x ≡ false
-    → numberOf (times (stepOf f) (patternOf (fractionOf f) (exponentOf f) c)) ≡ numberOf x → Accepted (floating f) x
+    → numberOf (times (stepOf f) (patternIn f c)) ≡ numberOf x → Accepted (floating f) x
 accepts-float f c notNumber t h = absurd (true≢false t)
 accepts-float f c (infinite s) t h = record { some-number = refl; no-infinity = refl; no-fraction = refl; in-range = refl; held = refl }
 accepts-float f c (finite s m) t h =
-    let x = absOf (fractionOf f) (exponentOf f) c in
+    let x = absIn f c in
     let g = finite-magnitude f c s m h in
-    let top : magOf (fractionOf f) x ≤ largestOf (fractionOf f) (exponentOf f) =
-    subst (λ (n : ℕ). magOf (fractionOf f) x ≤ n) (mag-largest (fractionOf f) (exponentOf f) (two-or-more f))
-    (mag-grows (fractionOf f) x (infOf (fractionOf f) (exponentOf f) - 1) (omega (arith, g .0))) in
-    let b : m ≤ largestOf (fractionOf f) (exponentOf f) * stepOf f =
-    subst (λ (n : ℕ). n ≤ largestOf (fractionOf f) (exponentOf f) * stepOf f) (sym (g .1)) (mul-le-mul-right (stepOf f) top) in
+    let top : magIn f x ≤ largestIn f =
+    subst (λ (n : ℕ). magIn f x ≤ n) (mag-largest (fractionOf f) (exponentOf f) (two-or-more f))
+    (mag-grows (fractionOf f) x (infIn f - 1) (omega (arith, g .0))) in
+    let b : m ≤ largestIn f * stepOf f =
+    subst (λ (n : ℕ). n ≤ largestIn f * stepOf f) (sym (g .1)) (mul-le-mul-right (stepOf f) top) in
     record {
       some-number = refl;
       no-infinity = refl;
       no-fraction = and-false (hasFraction (finite s m));
-      in-range = le-ltb (largestOf (fractionOf f) (exponentOf f) * stepOf f) m b;
+      in-range = le-ltb (largestIn f * stepOf f) m b;
       held = ap not (ap (heldIn f) (g .1) ∙ held-of f x);
     }

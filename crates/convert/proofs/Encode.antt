@@ -9,9 +9,9 @@ use native.Mathlib.Nat.{suc-add}
 use native.Mathlib.Omega.{arith}
 use borrow.Author.Tests.{eq-eqb, eqb-true}
 use lib.Pow.{pow-pos, pow-add, pow-mono, high, low}
-use lib.Ieee.{Format, size}
+use lib.Ieee.{size}
 use lib.Ieee.Digits.{size-lt, size-le, size-reaches}
-use Rattle.float.specs.Format.{fractionOf, magAt, magOf}
+use Rattle.float.specs.Format.{Format, fractionOf, magAt, magOf, magIn}
 use Rattle.float.proofs.Magnitude.{mag-small}
 use Rattle.float.proofs.Naturals.{lt-or-ge}
 use Rattle.value.specs.Meaning.{stepOf}
@@ -108,16 +108,16 @@ mag-encode p n z = elim (lt-or-ge (n / 2 ^ dropOf p n) (2 ^ p)) [
 -- ---- what a format holds
 
 -- what some abs has is encoded as that abs
-pub encode-held : (f : Format) (x : ℕ) → encodeOf f (magOf (fractionOf f) x * stepOf f) ≡ x
+pub encode-held : (f : Format) (x : ℕ) → encodeOf f (magIn f x * stepOf f) ≡ x
 unfolding encodeOf
-encode-held f x = rw (mul-div-cancel (magOf (fractionOf f) x) (step-pos f)) (encode-mag (fractionOf f) x)
+encode-held f x = rw (mul-div-cancel (magIn f x) (step-pos f)) (encode-mag (fractionOf f) x)
 
 -- held: some abs has the magnitude
-pub held-of : (f : Format) (x : ℕ) → heldIn f (magOf (fractionOf f) x * stepOf f) ≡ true
+pub held-of : (f : Format) (x : ℕ) → heldIn f (magIn f x * stepOf f) ≡ true
 unfolding heldIn
-held-of f x = eq-eqb _ _ (ap (λ (n : ℕ). magOf (fractionOf f) n * stepOf f) (encode-held f x))
+held-of f x = eq-eqb _ _ (ap (λ (n : ℕ). magIn f n * stepOf f) (encode-held f x))
 
 -- and the encoded abs is one that has it
-pub held-has : (f : Format) (m : ℕ) → heldIn f m ≡ true → magOf (fractionOf f) (encodeOf f m) * stepOf f ≡ m
+pub held-has : (f : Format) (m : ℕ) → heldIn f m ≡ true → magIn f (encodeOf f m) * stepOf f ≡ m
 unfolding heldIn
 held-has f m h = eqb-true _ _ h

@@ -8,11 +8,13 @@ use native.Mathlib.Omega.{arith}
 use borrow.Author.Tests.{eq-eqb, ne-eqb}
 use lib.IntN.{ℤ, pos, negsuc}
 use lib.Signed.{mag}
-use lib.Ieee.{Format, binary32, binary64, ofBits}
-use Rattle.float.specs.Format.{fractionOf, exponentOf, signOf}
+use lib.Ieee.{ofBits}
+use lib.Ieee as language
+use Rattle.float.specs.Language.{ownOf}
+use Rattle.float.specs.Format.{Format, f32, f64, signIn}
 use Rattle.float.specs.Number.{Exact, notNumber, infinite, finite, isNone, times, none}
 use Rattle.float.specs.Number as float-number
-use Rattle.float.specs.Order.{patternOf}
+use Rattle.float.specs.Order.{patternIn}
 use Rattle.float.proofs.Language.{below-top}
 use Rattle.float.proofs.Tests.{clash}
 use Rattle.value.specs.declared.Kind.{Kind}
@@ -46,9 +48,16 @@ made-kind kind.I64 x = refl
 made-kind kind.F32 x = refl
 made-kind kind.F64 x = refl
 
-float-bits : (f : Format) (x : Exact) → Accepted (floating f) x
-    → floatBits f (ofBits f (patternFor f x)) (wordFor (fractionOf f) (exponentOf f) (patternFor f x)) ≡ patternFor f x
-float-bits f x a = bits-pattern f (patternFor f x) (below-top f (patternFor f x) (pattern-small f x a))
+-- a float that the language holds as a float
+module _ (f : language.Format) (x : Exact) (a : Accepted (floating (ownOf f)) x) where
+  abbrev ownPattern : ℕ
+  ownPattern = patternFor (ownOf f) x
+
+  float-bits : floatBits f (ofBits f ownPattern) (wordFor (ownOf f) ownPattern) ≡ ownPattern
+  float-bits = bits-pattern f ownPattern (below-top f ownPattern (pattern-small (ownOf f) x a))
+
+  float-of : ownPattern ≡ floatBits f (ofBits f ownPattern) (wordFor (ownOf f) ownPattern) % (2 * signIn (ownOf f))
+  float-of = sym (ap (λ (n : ℕ). n % (2 * signIn (ownOf f))) float-bits ∙ mod-eq-of-lt (pattern-small (ownOf f) x a))
 
 pub made-exact : (to : Kind) (x : Exact) → Accepted (formOf to) x → exactOf (madeIn to x) ≡ exactFor (formOf to) x
 unfolding madeIn
@@ -60,8 +69,8 @@ made-exact kind.I8 x a = refl
 made-exact kind.I16 x a = refl
 made-exact kind.I32 x a = refl
 made-exact kind.I64 x a = refl
-made-exact kind.F32 x a = ap (λ (b : ℕ). times (stepOf binary32) (patternOf 23 8 b)) (float-bits binary32 x a)
-made-exact kind.F64 x a = ap (λ (b : ℕ). times (stepOf binary64) (patternOf 52 11 b)) (float-bits binary64 x a)
+made-exact kind.F32 x a = ap (λ (b : ℕ). times (stepOf f32) (patternIn f32 b)) (float-bits language.binary32 x a)
+made-exact kind.F64 x a = ap (λ (b : ℕ). times (stepOf f64) (patternIn f64 b)) (float-bits language.binary64 x a)
 
 -- the made value is that of its own bits: it lies in the kind's range
 natural-of : (k n : ℕ) → n < 2 ^ k → n ≡ n % 2 ^ k
@@ -74,11 +83,6 @@ twos-fits half (negsuc n) h = omega arith
 integer-of : (half : ℕ) (z : ℤ) → mag z < half → z ≡ fromTwos half (twosOf (2 * half - 1) z % (2 * half))
 integer-of half z h = sym (ap (fromTwos half) (mod-eq-of-lt (twos-fits half z h)) ∙ from-twos half z h)
 
-float-of : (f : Format) (x : Exact) → Accepted (floating f) x
-    → patternFor f x ≡ floatBits f (ofBits f (patternFor f x))
-    (wordFor (fractionOf f) (exponentOf f) (patternFor f x)) % (2 * signOf (fractionOf f) (exponentOf f))
-float-of f x a = sym (ap (λ (n : ℕ). n % (2 * signOf (fractionOf f) (exponentOf f))) (float-bits f x a) ∙ mod-eq-of-lt (pattern-small f x a))
-
 made-of-bits : (to : Kind) (x : Exact) → Accepted (formOf to) x → madeIn to x ≡ valueOf to (bitsOf (madeIn to x))
 unfolding madeIn valueOf
 made-of-bits kind.U8 x a = ap U8 (natural-of 8 (magnitudeFor x) (unsigned-fits 8 x a))
@@ -89,8 +93,8 @@ made-of-bits kind.I8 x a = ap I8 (integer-of (2 ^ 7) (integerFor x) (signed-fits
 made-of-bits kind.I16 x a = ap I16 (integer-of (2 ^ 15) (integerFor x) (signed-fits 16 x a))
 made-of-bits kind.I32 x a = ap I32 (integer-of (2 ^ 31) (integerFor x) (signed-fits 32 x a))
 made-of-bits kind.I64 x a = ap I64 (integer-of (2 ^ 63) (integerFor x) (signed-fits 64 x a))
-made-of-bits kind.F32 x a = ap f32Value (float-of binary32 x a)
-made-of-bits kind.F64 x a = ap f64Value (float-of binary64 x a)
+made-of-bits kind.F32 x a = ap f32Value (float-of language.binary32 x a)
+made-of-bits kind.F64 x a = ap f64Value (float-of language.binary64 x a)
 
 -- ---- a value of the kind that has the number
 
@@ -104,8 +108,8 @@ accepts kind.I8 b x t h = accepts-signed 8 (fromTwos (2 ^ 7) (b % 2 ^ 8)) x (fro
 accepts kind.I16 b x t h = accepts-signed 16 (fromTwos (2 ^ 15) (b % 2 ^ 16)) x (from-fits (2 ^ 15) (b % 2 ^ 16) (low-bits b 16)) h
 accepts kind.I32 b x t h = accepts-signed 32 (fromTwos (2 ^ 31) (b % 2 ^ 32)) x (from-fits (2 ^ 31) (b % 2 ^ 32) (low-bits b 32)) h
 accepts kind.I64 b x t h = accepts-signed 64 (fromTwos (2 ^ 63) (b % 2 ^ 64)) x (from-fits (2 ^ 63) (b % 2 ^ 64) (low-bits b 64)) h
-accepts kind.F32 b x t h = accepts-float binary32 _ x t h
-accepts kind.F64 b x t h = accepts-float binary64 _ x t h
+accepts kind.F32 b x t h = accepts-float f32 _ x t h
+accepts kind.F64 b x t h = accepts-float f64 _ x t h
 
 -- ---- the five rules
 

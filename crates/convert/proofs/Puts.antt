@@ -5,10 +5,9 @@ use Prim.Native.Nat.{ℕ, zero, suc, _+_, _-_, _*_, _/_, _%_, _^_, _<_}
 use native.Mathlib.Omega.{arith}
 use lib.Dec.{eqb, ltb}
 use lib.IntN.{ℤ, pos, negsuc}
-use lib.Ieee.{Format, binary32, binary64}
 use lib.Signed.{mag}
-use Rattle.float.specs.Format.{fractionOf, exponentOf, infOf}
-use Rattle.float.specs.ClassMeaning.{largestOf}
+use Rattle.float.specs.Format.{Format, f32, f64, fractionOf, exponentOf, infIn}
+use Rattle.float.specs.ClassMeaning.{largestIn}
 use Rattle.float.specs.Number.{Exact, notNumber, infinite, finite, signedOf}
 use Rattle.value.specs.declared.Kind.{Kind}
 use Rattle.value.specs.declared.Kind.the-variants as kind
@@ -22,7 +21,7 @@ use Rattle.value.proofs.Rules.{chain-mapped}
 use Rattle.convert.specs.declared.Fitted.{Fitted}
 use Rattle.convert.specs.declared.Fitted.the-variants as fitted
 use Rattle.convert.specs.Convert.{encodeOf, heldIn, hasFraction, outside, intoRules, signFor, magnitudeFor, absFor, madeIn}
-use Rattle.convert.specs.Inner.{intoOf, fittedOutcome, wholeIn, patternIn, findIn, FitsIn, makeIn}
+use Rattle.convert.specs.Inner.{intoOf, fittedOutcome, wholeIn, floatIn, findIn, FitsIn, makeIn}
 use Rattle.convert.proofs.Accepted.{Accepted, rules-accept, unsigned-fits, signed-fits, abs-small}
 
 -- ---- the number that a form has
@@ -56,13 +55,13 @@ find-signed k notNumber = refl
 find-signed k (infinite s) = refl
 find-signed k (finite s m) = whole-rules (not (eqb (m % unit) 0)) (outside (2 ^ (k - 1)) (2 ^ (k - 1) - 1) s (m / unit)) (s, m / unit)
 
-find-float : (f : Format) (last : ℕ) → last ≡ 2 ^ exponentOf f - 3 → (last + 2) * 2 ^ fractionOf f ≡ infOf (fractionOf f) (exponentOf f) → (x : Exact)
-    → patternIn (fractionOf f) (stepOf f) last x ≡ chain (intoRules (floating f) x) (gives (signFor x, absFor f x))
-unfolding patternIn heldIn encodeOf
+find-float : (f : Format) (last : ℕ) → last ≡ 2 ^ exponentOf f - 3 → (last + 2) * 2 ^ fractionOf f ≡ infIn f → (x : Exact)
+    → floatIn (fractionOf f) (stepOf f) last x ≡ chain (intoRules (floating f) x) (gives (signFor x, absFor f x))
+unfolding floatIn heldIn encodeOf
 find-float f last q i notNumber = refl
 find-float f last q i (infinite s) = ap (λ (n : ℕ). gives (s, n)) i
 find-float f last q i (finite s m) =
-    rw q (float-rules (hasFraction (finite s m)) (ltb (largestOf (fractionOf f) (exponentOf f) * stepOf f) m) (not (heldIn f m)) (s, encodeOf f m))
+    rw q (float-rules (hasFraction (finite s m)) (ltb (largestIn f * stepOf f) m) (not (heldIn f m)) (s, encodeOf f m))
 
 pub find-rules : (to : Kind) (x : Exact) → findIn to x ≡ chain (intoRules (formOf to) x) (gives (signFor x, numberFor (formOf to) x))
 unfolding stepOf
@@ -74,8 +73,8 @@ find-rules kind.I8 x = find-signed 8 x
 find-rules kind.I16 x = find-signed 16 x
 find-rules kind.I32 x = find-signed 32 x
 find-rules kind.I64 x = find-signed 64 x
-find-rules kind.F32 x = find-float binary32 253 refl refl x
-find-rules kind.F64 x = find-float binary64 2045 refl refl x
+find-rules kind.F32 x = find-float f32 253 refl refl x
+find-rules kind.F64 x = find-float f64 2045 refl refl x
 
 -- ---- the value made of it
 

@@ -7,11 +7,10 @@ use native.Mathlib.Nat.{mul-div-cancel, suc-mul}
 use native.Mathlib.Omega.{arith}
 use borrow.Author.Tests.{le-leb, lt-leb}
 use lib.IntN.{ℤ, pos, negsuc}
-use lib.Ieee.{Format, binary32, binary64}
-use Rattle.float.specs.Format.{fractionOf, exponentOf, signOf, infOf, negativeOf, absOf}
+use Rattle.float.specs.Format.{Format, f32, f64, fractionOf, exponentOf, absIn, infIn, negativeIn, signIn}
 use Rattle.float.specs.Number.{Exact, notNumber, infinite, finite, isNone, times, none}
 use Rattle.float.specs.Number as float-number
-use Rattle.float.specs.Order.{patternOf}
+use Rattle.float.specs.Order.{patternIn}
 use Rattle.float.proofs.Naturals.{lt-or-ge, three-ways}
 use Rattle.float.proofs.Tests.{clash}
 use Rattle.float.proofs.Magnitude.{abs-clear, abs-set}
@@ -20,7 +19,7 @@ use Rattle.value.specs.declared.Kind.{Kind}
 use Rattle.value.specs.declared.Kind.the-variants as kind
 use Rattle.value.specs.declared.Value.{Value}
 use Rattle.value.specs.Kinds.{Form, unsigned, signed, floating, formOf, kindOf, kindNumber, isInteger}
-use Rattle.value.specs.Meaning.{contentOf, InRange, wholeOf, unit, stepOf, exactOf, numberOf, bitsOf, twosOf, fromTwos, f32Value, f64Value, valueOf}
+use Rattle.value.specs.Meaning.{InRange, wholeOf, unit, stepOf, exactOf, numberOf, bitsOf, twosOf, fromTwos, f32Value, f64Value, valueOf}
 use Rattle.value.specs.Outcome.{gives}
 use Rattle.value.proofs.Units.{unit-pos}
 use Rattle.value.proofs.MadeValues.{bits-made}
@@ -78,22 +77,22 @@ integer-again (pos n) = ap pos (mul-div-cancel n unit-pos)
 integer-again (negsuc n) = rw (mul-div-cancel (suc n) unit-pos)
 
 module _ (f : Format) (c : ℕ) where
-  sign-abs : withSign f (negativeOf (fractionOf f) (exponentOf f) c) (absOf (fractionOf f) (exponentOf f) c) ≡ c
-  sign-abs = elim (lt-or-ge c (signOf (fractionOf f) (exponentOf f))) [
+  sign-abs : withSign f (negativeIn f c) (absIn f c) ≡ c
+  sign-abs = elim (lt-or-ge c (signIn f)) [
     | inl l ↦ rw (lt-leb _ _ l) (abs-clear (fractionOf f) (exponentOf f) c l)
     | inr g ↦ rw (le-leb _ _ g, abs-set (fractionOf f) (exponentOf f) c g) (omega arith)
   ]
 
-  pub pattern-again : isNone (times (stepOf f) (patternOf (fractionOf f) (exponentOf f) c)) ≡ false
-      → patternFor f (times (stepOf f) (patternOf (fractionOf f) (exponentOf f) c)) ≡ c
-  pattern-again t = elim (three-ways (absOf (fractionOf f) (exponentOf f) c) (infOf (fractionOf f) (exponentOf f))) [
+  pub pattern-again : isNone (times (stepOf f) (patternIn f c)) ≡ false
+      → patternFor f (times (stepOf f) (patternIn f c)) ≡ c
+  pattern-again t = elim (three-ways (absIn f c) (infIn f)) [
     | inl l ↦
         ap (λ (x : Exact). patternFor f (times (stepOf f) x)) (pattern-finite (fractionOf f) (exponentOf f) c l)
-        ∙ ap (withSign f (negativeOf (fractionOf f) (exponentOf f) c)) (encode-held f (absOf (fractionOf f) (exponentOf f) c))
+        ∙ ap (withSign f (negativeIn f c)) (encode-held f (absIn f c))
         ∙ sign-abs
     | inr (inl q) ↦
         ap (λ (x : Exact). patternFor f (times (stepOf f) x)) (pattern-infinite (fractionOf f) (exponentOf f) c q)
-        ∙ ap (withSign f (negativeOf (fractionOf f) (exponentOf f) c)) (sym q)
+        ∙ ap (withSign f (negativeIn f c)) (sym q)
         ∙ sign-abs
     | inr (inr g) ↦ absurd (true≢false (ap (λ (x : Exact). isNone (times (stepOf f) x)) (sym (pattern-nan (fractionOf f) (exponentOf f) c g)) ∙ t))
   ]
@@ -110,8 +109,8 @@ made-again kind.I8 b t = ap (twosOf (2 ^ 8 - 1)) (integer-again (fromTwos (2 ^ 7
 made-again kind.I16 b t = ap (twosOf (2 ^ 16 - 1)) (integer-again (fromTwos (2 ^ 15) (b % 2 ^ 16)))
 made-again kind.I32 b t = ap (twosOf (2 ^ 32 - 1)) (integer-again (fromTwos (2 ^ 31) (b % 2 ^ 32)))
 made-again kind.I64 b t = ap (twosOf (2 ^ 64 - 1)) (integer-again (fromTwos (2 ^ 63) (b % 2 ^ 64)))
-made-again kind.F32 b t = ap (λ (n : ℕ). bitsOf (f32Value n)) (pattern-again binary32 (bitsOf (valueOf kind.F32 b)) t ∙ bits-made kind.F32 b)
-made-again kind.F64 b t = ap (λ (n : ℕ). bitsOf (f64Value n)) (pattern-again binary64 (bitsOf (valueOf kind.F64 b)) t ∙ bits-made kind.F64 b)
+made-again kind.F32 b t = ap (λ (n : ℕ). bitsOf (f32Value n)) (pattern-again f32 (bitsOf (valueOf kind.F32 b)) t ∙ bits-made kind.F32 b)
+made-again kind.F64 b t = ap (λ (n : ℕ). bitsOf (f64Value n)) (pattern-again f64 (bitsOf (valueOf kind.F64 b)) t ∙ bits-made kind.F64 b)
 
 integer-or-float : (form : Form) → (isInteger form ≡ true) ⊎ ((f : Format) × (form ≡ floating f))
 integer-or-float (unsigned k) = inl refl
@@ -135,7 +134,7 @@ module _ (v : Value) (to : Kind) (other : kindNumber (kindOf v) ≡ kindNumber t
   ]
 
   -- there and back: the same bits
-  pub returns-same : InRange (contentOf v) → (isInteger (formOf to) ≡ true → exactOf v ≡ finite true 0 → ⊥)
+  pub returns-same : InRange v → (isInteger (formOf to) ≡ true → exactOf v ≡ finite true 0 → ⊥)
       → (w : Value) → convertOf v to ≡ gives w → (u : Value) × (convertOf w (kindOf v) ≡ gives u) × (bitsOf u ≡ bitsOf v)
   returns-same r signless w h =
       let s = sound v to other w h in

@@ -5,17 +5,16 @@ use Prim.Native.Nat.{ℕ, suc, _+_, _-_, _*_, _/_, _%_, _^_, _≤_, _<_}
 use native.Mathlib.Nat.{mul-assoc, div-lt-iff-lt-mul, lt-of-lt-of-le, mod-eq-of-lt, one-mul}
 use native.Mathlib.Omega.{arith}
 use borrow.Author.Tests.{lt-ltb, le-ltb, le-leb, eq-eqb, ne-eqb}
-use lib.Ieee.{Format, Float}
 use lib.IntN.{ℤ, pos, negsuc, natAbs, _-ℤ_}
 use lib.Pow.{pow-pos, pow-add, pow-lt}
 use lib.Signed.{mag, leZ}
 use mir.Syntax.{w64}
 use mir.Val.{SFits, toZ, ofZ}
 use mir.ValLaws.{toZ-ofZ}
-use Rattle.float.specs.Format.{fractionOf, exponentOf, infOf, negativeOf, absOf, magAt, magOf}
+use Rattle.float.specs.Format.{Format, fractionOf, magAt, magOf, absIn, infIn, negativeIn}
 use Rattle.float.specs.Number.{notNumber, infinite, finite, times}
-use Rattle.float.specs.Order.{patternOf}
-use Rattle.value.specs.Meaning.{wholeOf, floatBits}
+use Rattle.float.specs.Order.{patternOf, patternIn}
+use Rattle.value.specs.Meaning.{wholeOf}
 use Rattle.value.proofs.TwosComplement.{twice}
 use Rattle.convert.specs.Inner.{patternAt}
 
@@ -80,12 +79,9 @@ pub field-small : (p i a : ℕ) → i ≤ 2047 * 2 ^ p → a ≤ i → (a ≡ i 
 field-small p i a h l d = let b : a < i = omega arith in div-lt-iff-lt-mul {k = 2 ^ p} {x = a} {y = 2047} (pow-pos p) .1 (lt-of-lt-of-le b h)
 
 -- a float's pattern by its sign and abs
-pub taken-pattern : (f : Format) (x : Float) (w : ℕ) {s : Bool} {a b : ℕ} → b ≡ floatBits f x w
-    → s ≡ negativeOf (fractionOf f) (exponentOf f) b → a ≡ absOf (fractionOf f) (exponentOf f) b
-    → patternAt (fractionOf f) (infOf (fractionOf f) (exponentOf f)) s a ≡ patternOf (fractionOf f) (exponentOf f) (floatBits f x w)
+pub taken-pattern : (f : Format) {s : Bool} {a b m : ℕ} → b ≡ m → s ≡ negativeIn f b → a ≡ absIn f b → patternAt (fractionOf f) (infIn f) s a ≡ patternIn f m
 unfolding patternOf
-taken-pattern f x w {s} {a} {b} q r t =
-    ap (λ (k : Bool). patternAt (fractionOf f) (infOf (fractionOf f) (exponentOf f)) k a) r
-    ∙ ap (patternAt (fractionOf f) (infOf (fractionOf f) (exponentOf f)) (negativeOf (fractionOf f) (exponentOf f) b)) t
-    ∙ ap (λ (c : ℕ). patternAt (fractionOf f) (infOf (fractionOf f) (exponentOf f)) (negativeOf (fractionOf f) (exponentOf f) c)
-    (absOf (fractionOf f) (exponentOf f) c)) q
+taken-pattern f {s} {a} {b} q r t =
+    ap (λ (k : Bool). patternAt (fractionOf f) (infIn f) k a) r
+    ∙ ap (patternAt (fractionOf f) (infIn f) (negativeIn f b)) t
+    ∙ ap (λ (c : ℕ). patternAt (fractionOf f) (infIn f) (negativeIn f c) (absIn f c)) q

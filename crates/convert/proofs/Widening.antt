@@ -7,22 +7,22 @@ use native.Mathlib.Nat.{add-comm, lt-of-lt-of-le, mul-assoc, mul-lt-mul-of-pos-r
 use native.Mathlib.Omega.{arith}
 use borrow.Author.Tests.{leb-true, le-ltb}
 use lib.IntN.{ℤ, pos, negsuc, natAbs}
-use lib.Ieee.{Format, binary32, binary64, size}
+use lib.Ieee.{size}
 use lib.Ieee.Digits.{size-le}
 use lib.Pow.{pow-pos, pow-add, pow-mono, high-ones}
 use lib.Signed.{mag}
-use Rattle.float.specs.Format.{fractionOf, exponentOf, infOf, negativeOf, absOf, magAt, magOf}
+use Rattle.float.specs.Format.{Format, f32, f64, fractionOf, exponentOf, infOf, negativeOf, absOf, magAt, magOf}
 use Rattle.float.specs.Number.{Exact, finite, isNone, times, none}
-use Rattle.float.specs.Order.{patternOf}
+use Rattle.float.specs.Order.{patternOf, patternIn}
 use Rattle.float.proofs.Naturals.{three-ways}
 use Rattle.float.proofs.Comparing.{pattern-nan, pattern-infinite, pattern-finite}
 use Rattle.value.specs.declared.Kind.{Kind}
 use Rattle.value.specs.declared.Value.{Value}
 use Rattle.value.specs.Kinds.{Form, unsigned, signed, floating, formOf, kindOf, kindNumber}
-use Rattle.value.specs.Meaning.{Content, natural, integer, real, contentOf, floatBits, InRange, wholeOf, unit, stepOf, exactIn, exactOf, numberOf}
+use Rattle.value.specs.Meaning.{Content, natural, integer, real, contentOf, InRange, wholeOf, unit, stepOf, exactIn, exactOf, numberOf}
 use Rattle.value.specs.Outcome.{gives}
 use Rattle.value.proofs.TwosComplement.{fits-below}
-use Rattle.value.proofs.Ranges.{formIn, content-form}
+use Rattle.value.proofs.Ranges.{formIn, content-form, Ranged, content-ranged}
 use Rattle.convert.specs.Convert.{hasFraction, heldIn, encodeOf, madeIn, convertOf}
 use Rattle.convert.specs.Widening.{widens}
 use Rattle.convert.proofs.Binary.{over-up}
@@ -33,8 +33,8 @@ use Rattle.convert.proofs.Exactly.{none-is, into-gives, other-kind}
 -- ---- a number of few digits, in a float format
 
 abbrev stepBits : Format → ℕ
-stepBits binary32 = 925
-stepBits binary64 = 0
+stepBits f32 = 925
+stepBits f64 = 0
 
 -- the place of the leading digit of the largest number
 abbrev topPlace : Format → ℕ
@@ -42,8 +42,8 @@ topPlace f = fractionOf f + (2 ^ exponentOf f - 3) + stepBits f
 
 step-is : (f : Format) → stepOf f ≡ 2 ^ stepBits f
 unfolding stepOf
-step-is binary32 = refl
-step-is binary64 = refl
+step-is f32 = refl
+step-is f64 = refl
 
 -- q * 2^j has as many digits as q, and j more
 size-product : (q j d : ℕ) → q < 2 ^ d → size (q * 2 ^ j) ≤ d + j
@@ -80,13 +80,13 @@ module _ (f : Format) (s : Bool) (q j d : ℕ) (few : q < 2 ^ d) (short : d ≤ 
 abbrev pub Holds : Form → Exact → Type 0
 Holds (unsigned k) x = (n : ℕ) × (n < 2 ^ k) × (x ≡ times unit (wholeOf (pos n)))
 Holds (signed k) x = (z : ℤ) × (mag z < 2 ^ (k - 1)) × (x ≡ times unit (wholeOf z))
-Holds (floating f) x = (c : ℕ) × (x ≡ times (stepOf f) (patternOf (fractionOf f) (exponentOf f) c))
+Holds (floating f) x = (c : ℕ) × (x ≡ times (stepOf f) (patternIn f c))
 
 -- a whole number of few digits
 whole-accepted : (f : Format) (s : Bool) (n k : ℕ) → n < 2 ^ k → k ≤ suc (fractionOf f) → Accepted (floating f) (finite s (n * unit))
 unfolding unit
-whole-accepted binary32 s n k h l = few-accepted binary32 s n 1074 k h l (omega arith) (omega arith)
-whole-accepted binary64 s n k h l = few-accepted binary64 s n 1074 k h l (omega arith) (omega arith)
+whole-accepted f32 s n k h l = few-accepted f32 s n 1074 k h l (omega arith) (omega arith)
+whole-accepted f64 s n k h l = few-accepted f64 s n 1074 k h l (omega arith) (omega arith)
 
 abs-few : (z : ℤ) (h : ℕ) → mag z < 2 ^ h → natAbs z < 2 ^ suc h
 abs-few (pos n) h l = let t : 2 ^ suc h ≡ 2 ^ h * 2 = pow-suc 2 h in omega arith
@@ -133,10 +133,10 @@ module _ (f g : Format) (longer : fractionOf f ≤ fractionOf g) (finer : stepBi
 
 -- of the two formats, the one with the longer fraction has the smaller step and the wider range
 longer-wider : (f g : Format) → fractionOf f ≤ fractionOf g → (stepBits g ≤ stepBits f) × (topPlace f ≤ topPlace g)
-longer-wider binary32 binary32 h = (omega arith, omega arith)
-longer-wider binary32 binary64 h = (omega arith, omega arith)
-longer-wider binary64 binary32 h = absurd (omega arith)
-longer-wider binary64 binary64 h = (omega arith, omega arith)
+longer-wider f32 f32 h = (omega arith, omega arith)
+longer-wider f32 f64 h = (omega arith, omega arith)
+longer-wider f64 f32 h = absurd (omega arith)
+longer-wider f64 f64 h = (omega arith, omega arith)
 
 room : (from to : Form) (x : Exact) → Holds from x → widens from to ≡ true → isNone x ≡ false → Accepted to x
 room (unsigned j) (unsigned k) x h w t =
@@ -160,16 +160,16 @@ room (floating f) (floating g) x h w t =
 
 -- ---- of values
 
-holds-in : (x : Content) → InRange x → Holds (formIn x) (exactIn x)
+holds-in : (x : Content) → Ranged x → Holds (formIn x) (exactIn x)
 holds-in (natural k n) r = (n, r, refl)
 holds-in (integer k z) r = (z, fits-below (2 ^ (k - 1)) z r, refl)
-holds-in (real f x w) r = (floatBits f x w, refl)
+holds-in (real f b) r = (b, refl)
 
 -- a widening conversion refuses nothing but a NaN
-pub widened : (v : Value) (to : Kind) → InRange (contentOf v) → (kindNumber (kindOf v) ≡ kindNumber to → ⊥)
+pub widened : (v : Value) (to : Kind) → InRange v → (kindNumber (kindOf v) ≡ kindNumber to → ⊥)
     → widens (formOf (kindOf v)) (formOf to) ≡ true → (numberOf v ≡ none → ⊥)
     → (w : Value) × (convertOf v to ≡ gives w)
 widened v to r d h n =
-    let holds = subst (λ (form : Form). Holds form (exactOf v)) (content-form v) (holds-in (contentOf v) r) in
+    let holds = subst (λ (form : Form). Holds form (exactOf v)) (content-form v) (holds-in (contentOf v) (content-ranged v r)) in
     let a : Accepted (formOf to) (exactOf v) = room (formOf (kindOf v)) (formOf to) (exactOf v) holds h (none-is (exactOf v) n) in
     (madeIn to (exactOf v), other-kind v to d ∙ into-gives to (exactOf v) a)

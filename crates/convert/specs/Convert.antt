@@ -3,10 +3,10 @@ use Prim.Native.Nat.{ℕ, suc, _+_, _-_, _*_, _/_, _%_, _^_}
 use mathlib.Core.Bool.{Bool, true, false, not, _&&_, cond}
 use mathlib.Core.List.{List, [], _∷_}
 use lib.Dec.{eqb, ltb}
-use lib.Ieee.{Format, binary32, binary64, size}
+use lib.Ieee.{size}
 use lib.IntN.{ℤ}
-use Rattle.float.specs.Format.{fractionOf, exponentOf, infOf, signOf, magOf}
-use Rattle.float.specs.ClassMeaning.{largestOf}
+use Rattle.float.specs.Format.{Format, f32, f64, fractionOf, signIn, infIn, magIn}
+use Rattle.float.specs.ClassMeaning.{largestIn}
 use Rattle.float.specs.Number.{Exact, notNumber, infinite, finite, isNone, signedOf}
 use Rattle.value.specs.declared.Kind.{Kind}
 use Rattle.value.specs.declared.Kind.the-variants as kind
@@ -35,7 +35,7 @@ encodeOf f m = encodeAt (fractionOf f) (m / stepOf f)
 
 -- written as a pattern and read back, it is the same magnitude
 unfoldable pub heldIn : Format → ℕ → Bool
-heldIn f m = eqb (magOf (fractionOf f) (encodeOf f m) * stepOf f) m
+heldIn f m = eqb (magIn f (encodeOf f m) * stepOf f) m
 
 -- ---- the rules of a target form
 
@@ -60,7 +60,7 @@ outside low high false n = ltb high n
 abbrev pub outOfForm : Form → Bool → ℕ → Bool
 outOfForm (unsigned k) s m = outside 0 (2 ^ k - 1) s (m / unit)
 outOfForm (signed k) s m = outside (2 ^ (k - 1)) (2 ^ (k - 1) - 1) s (m / unit)
-outOfForm (floating f) s m = ltb (largestOf (fractionOf f) (exponentOf f) * stepOf f) m
+outOfForm (floating f) s m = ltb (largestIn f * stepOf f) m
 
 -- only a finite number can lie outside
 abbrev pub outOfRange : Form → Exact → Bool
@@ -84,7 +84,7 @@ notHeld form (finite s m) = notHeldIn form m
 
 -- the pattern with its sign bit
 abbrev pub withSign : Format → Bool → ℕ → ℕ
-withSign f s a = cond s (signOf (fractionOf f) (exponentOf f) + a) a
+withSign f s a = cond s (signIn f + a) a
 
 -- the sign, and beside it an integer's magnitude or a float's abs
 abbrev pub signFor : Exact → Bool
@@ -101,7 +101,7 @@ magnitudeFor (finite s m) = m / unit
 -- a float's abs
 abbrev pub absFor : Format → Exact → ℕ
 absFor f notNumber = 0
-absFor f (infinite s) = infOf (fractionOf f) (exponentOf f)
+absFor f (infinite s) = infIn f
 absFor f (finite s m) = encodeOf f m
 
 -- the integer
@@ -122,8 +122,8 @@ madeIn kind.I8 x = I8 (integerFor x)
 madeIn kind.I16 x = I16 (integerFor x)
 madeIn kind.I32 x = I32 (integerFor x)
 madeIn kind.I64 x = I64 (integerFor x)
-madeIn kind.F32 x = f32Value (patternFor binary32 x)
-madeIn kind.F64 x = f64Value (patternFor binary64 x)
+madeIn kind.F32 x = f32Value (patternFor f32 x)
+madeIn kind.F64 x = f64Value (patternFor f64 x)
 
 -- ---- the conversion
 

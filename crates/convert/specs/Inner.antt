@@ -3,9 +3,8 @@
 use Prim.Native.Nat.{ℕ, suc, _+_, _-_, _*_, _/_, _%_, _^_, _<_}
 use mathlib.Core.Bool.{Bool, not, cond}
 use lib.Dec.{eqb, ltb}
-use lib.Ieee.{binary32, binary64}
 use lib.Signed.{mag}
-use Rattle.float.specs.Format.{magOf, signOf, fractionOf, exponentOf}
+use Rattle.float.specs.Format.{f32, f64, magOf, signIn}
 use Rattle.float.specs.Number.{Exact, notNumber, infinite, finite, signedOf}
 use Rattle.value.specs.declared.Kind.{Kind}
 use Rattle.value.specs.declared.Value.{Value}
@@ -58,10 +57,10 @@ floatAt p t last s m =
     (refuseIf (not (heldAt p t m)) 5 0
     (gives (s, encodeAt p (m / t))))
 
-unfoldable pub patternIn : ℕ → ℕ → ℕ → Exact → Outcome (Bool × ℕ)
-patternIn p t last notNumber = refuses 1 0
-patternIn p t last (infinite s) = gives (s, (last + 2) * 2 ^ p)
-patternIn p t last (finite s m) = floatAt p t last s m
+unfoldable pub floatIn : ℕ → ℕ → ℕ → Exact → Outcome (Bool × ℕ)
+floatIn p t last notNumber = refuses 1 0
+floatIn p t last (infinite s) = gives (s, (last + 2) * 2 ^ p)
+floatIn p t last (finite s m) = floatAt p t last s m
 
 -- ---- a target kind: what it finds, that this fits it, and the value that it makes of it
 
@@ -74,13 +73,13 @@ findIn kind.I8 x = wholeIn 0x80 0x7f x
 findIn kind.I16 x = wholeIn 0x8000 0x7fff x
 findIn kind.I32 x = wholeIn 0x8000_0000 0x7fff_ffff x
 findIn kind.I64 x = wholeIn 0x8000_0000_0000_0000 0x7fff_ffff_ffff_ffff x
-findIn kind.F32 x = patternIn 23 (2 ^ 925) 253 x
-findIn kind.F64 x = patternIn 52 1 2045 x
+findIn kind.F32 x = floatIn 23 (2 ^ 925) 253 x
+findIn kind.F64 x = floatIn 52 1 2045 x
 
 abbrev pub FitsIn : Form → Bool → ℕ → Type 0
 FitsIn (unsigned k) s n = n < 2 ^ k
 FitsIn (signed k) s n = mag (signedOf s n) < 2 ^ (k - 1)
-FitsIn (floating f) s n = n < signOf (fractionOf f) (exponentOf f)
+FitsIn (floating f) s n = n < signIn f
 
 abbrev pub makeIn : Kind → Bool → ℕ → Value
 makeIn kind.U8 s n = U8 n
@@ -91,8 +90,8 @@ makeIn kind.I8 s n = I8 (signedOf s n)
 makeIn kind.I16 s n = I16 (signedOf s n)
 makeIn kind.I32 s n = I32 (signedOf s n)
 makeIn kind.I64 s n = I64 (signedOf s n)
-makeIn kind.F32 s n = f32Value (withSign binary32 s n)
-makeIn kind.F64 s n = f64Value (withSign binary64 s n)
+makeIn kind.F32 s n = f32Value (withSign f32 s n)
+makeIn kind.F64 s n = f64Value (withSign f64 s n)
 
 -- the value of a kind that has a number, or why there is none
 unfoldable pub intoOf : Kind → Exact → Outcome Value

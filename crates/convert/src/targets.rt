@@ -6,7 +6,7 @@ ghost use lib.Signed.{mag};
 ghost use Rattle.float.specs.Number.{signedOf};
 ghost use Rattle.value.specs.Outcome.{refuses};
 ghost use Rattle.convert.specs.Convert.{convertedOutcome};
-ghost use Rattle.convert.specs.Inner.{intoOf, meaning, fittedOutcome, wholeAt, wholeIn, floatAt, patternIn, findIn, FitsIn, makeIn};
+ghost use Rattle.convert.specs.Inner.{intoOf, meaning, fittedOutcome, wholeAt, wholeIn, floatAt, floatIn, findIn, FitsIn, makeIn};
 ghost use Rattle.value.specs.Kinds.{formOf};
 use crate::Converted;
 use crate::Fitted;
@@ -76,7 +76,7 @@ fn held(s: bool, m: u64, g: u16, p: u16, c: u16, last: u16) -> Fitted
 
 fn float_in(x: Parts, p: u16, c: u16, last: u16) -> Fitted
     requires { ⌜ (p ≤ 52) × (last ≤ 2045) ⌝ }
-    ensures { λ r. ⌜ fittedOutcome r ≡ patternIn p (2 ^ c) last (meaning x) ⌝ }
+    ensures { λ r. ⌜ fittedOutcome r ≡ floatIn p (2 ^ c) last (meaning x) ⌝ }
 {
     match x {
         Parts::NotANumber => Fitted::Refused(1),

@@ -9,31 +9,31 @@ use native.Mathlib.Omega.{arith}
 use borrow.Author.Tests.{ltb-true, ltb-false}
 use lib.Dec.{eqb}
 use lib.IntN.{ℤ, pos, negsuc}
-use lib.Ieee.{Format}
 use Rattle.float.specs.declared.Order.{Order}
 use Rattle.float.specs.declared.Order.the-variants.{Less, Equal, Greater}
-use Rattle.float.specs.Format.{fractionOf, exponentOf, signOf, infOf}
-use Rattle.float.specs.ClassMeaning.{largestOf}
+use Rattle.float.specs.Format.{Format, fractionOf, exponentOf, infIn, signIn}
+use Rattle.float.specs.ClassMeaning.{largestIn}
 use Rattle.float.specs.Number.{Exact, finite, isNone, times, number, numberOf, signedOf}
-use Rattle.float.specs.Order.{orderZ, patternOf}
+use Rattle.float.specs.Order.{orderZ, patternIn}
 use Rattle.float.proofs.Comparing.{bySign, by-sign}
 use Rattle.float.proofs.Naturals.{order-less, order-greater, order-equal}
 use Rattle.float.proofs.SameNumber.{integer-equal}
 use Rattle.float.proofs.Magnitude.{mag-largest}
+use Rattle.float.proofs.Formats.{two-or-more, inf-range}
 use Rattle.float.proofs.Tests.{clash}
 use Rattle.value.specs.declared.Kind.{Kind}
 use Rattle.value.specs.declared.Value.{Value}
 use Rattle.value.specs.Kinds.{Form, unsigned, signed, floating, formOf, widthIn}
 use Rattle.value.specs.Meaning as value
-use Rattle.value.specs.Meaning.{Content, natural, integer, real, contentOf, InRange, bitsIn, unit, stepOf, exactIn, valueOf}
+use Rattle.value.specs.Meaning.{Content, natural, integer, real, contentOf, bitsIn, unit, stepOf, exactIn, valueOf}
 use Rattle.value.proofs.Units.{unit-pos}
 use Rattle.value.proofs.TwosComplement.{fits-below}
 use Rattle.value.proofs.MadeValues.{value-bits, value-kind}
-use Rattle.value.proofs.Ranges.{formIn, content-form, made-in-range}
+use Rattle.value.proofs.Ranges.{formIn, content-form, Ranged, content-ranged, made-in-range}
 use Rattle.convert.specs.Convert.{outside, outOfForm, outOfRange, encodeOf, heldIn, withSign}
 use Rattle.convert.proofs.Accepted.{Accepted, accepts-unsigned, accepts-signed, accepts-float}
 use Rattle.convert.proofs.Encode.{held-of}
-use Rattle.convert.proofs.Patterns.{two-or-more, inf-range, made-small, encode-below, finite-made}
+use Rattle.convert.proofs.Patterns.{made-small, encode-below, finite-made}
 use Rattle.convert.proofs.Wholes.{limit-is}
 use Rattle.demands.specs.Conversion.{HoldsNumberOf}
 use Rattle.demands.specs.WhichRefusal.{EachIs, Beyond}
@@ -41,8 +41,8 @@ use Rattle.demands.specs.WhichRefusal.{EachIs, Beyond}
 -- ---- past the ends
 
 -- the largest magnitude of a format, in units
-abbrev largestIn : Format → ℕ
-largestIn f = largestOf (fractionOf f) (exponentOf f) * stepOf f
+abbrev largestUnits : Format → ℕ
+largestUnits f = largestIn f * stepOf f
 
 -- a larger magnitude of the same sign, or any but 0 of the other
 past : (s t : Bool) (m n : ℕ) → 0 < m → (s ≡ t → n < m) → orderZ (signedOf t n) (signedOf s m) ≡ cond s Greater Less
@@ -76,23 +76,23 @@ past-ends : (form : Form) (s t : Bool) (m n : ℕ) → outOfForm form t n ≡ fa
 past-ends (unsigned k) s t m n h g = past-outside 0 (2 ^ k - 1) s t m n h g
 past-ends (signed k) s t m n h g = past-outside (2 ^ (k - 1)) (2 ^ (k - 1) - 1) s t m n h g
 past-ends (floating f) s t m n h g =
-    let l : n ≤ largestIn f = ltb-false _ _ h in
-    let k : largestIn f < m = ltb-true _ _ g in
+    let l : n ≤ largestUnits f = ltb-false _ _ h in
+    let k : largestUnits f < m = ltb-true _ _ g in
     past s t m n (omega arith) (λ q. omega arith)
 
 -- ---- every number of a kind is let in
 
-content-in : (c : Content) (x : Exact) → InRange c → isNone x ≡ false → numberOf (exactIn c) ≡ numberOf x → Accepted (formIn c) x
+content-in : (c : Content) (x : Exact) → Ranged c → isNone x ≡ false → numberOf (exactIn c) ≡ numberOf x → Accepted (formIn c) x
 content-in (natural k n) x r t h = accepts-unsigned k n x r h
 content-in (integer k z) x r t h = accepts-signed k z x (fits-below (2 ^ (k - 1)) z r) h
-content-in (real f y w) x r t h = accepts-float f _ x t h
+content-in (real f b) x r t h = accepts-float f _ x t h
 
 made-form : (to : Kind) (b : ℕ) → formIn (contentOf (valueOf to b)) ≡ formOf to
 made-form to b = content-form (valueOf to b) ∙ ap formOf (value-kind to b)
 
 made-in : (to : Kind) (b : ℕ) (x : Exact) → isNone x ≡ false → value.numberOf (valueOf to b) ≡ numberOf x → outOfRange (formOf to) x ≡ false
 made-in to b x t h =
-    let accepted = content-in (contentOf (valueOf to b)) x (made-in-range to b) t h in
+    let accepted = content-in (contentOf (valueOf to b)) x (content-ranged (valueOf to b) (made-in-range to b)) t h in
     subst (λ (form : Form). outOfRange form x ≡ false) (made-form to b) (accepted .in-range)
 
 each-past : (to : Kind) (s : Bool) (m : ℕ) → outOfForm (formOf to) s m ≡ true → EachIs (cond s Greater Less) to (number (signedOf s m))
@@ -129,36 +129,34 @@ not-past true true m n l h = elim (eq-or-lt-of-le l) [
 not-past true false m n l h = elim (equal-or (eqb n 0) (eqb m 0) h) [ inl e ↦ clash cc | inr e ↦ clash cc ]
 not-past false true m n l h = elim (equal-or (eqb n 0) (eqb m 0) h) [ inl e ↦ clash cc | inr e ↦ clash cc ]
 
-content-pattern : (c : Content) (f : Format) → formIn c ≡ floating f
-    → exactIn c ≡ times (stepOf f) (patternOf (fractionOf f) (exponentOf f) (bitsIn c))
+content-pattern : (c : Content) (f : Format) → formIn c ≡ floating f → exactIn c ≡ times (stepOf f) (patternIn f (bitsIn c))
 content-pattern (natural k n) f q = clash cc
 content-pattern (integer k z) f q = clash cc
-content-pattern (real g x w) f q =
+content-pattern (real g b) f q =
     let e : g ≡ f = cc in
-    ap (λ (h : Format). times (stepOf h) (patternOf (fractionOf h) (exponentOf h) (bitsIn (real g x w)))) e
+    ap (λ (h : Format). times (stepOf h) (patternIn h b)) e
 
-largest-held : (f : Format) → heldIn f (largestIn f) ≡ true
-largest-held f = subst (λ (n : ℕ). heldIn f (n * stepOf f) ≡ true) (mag-largest (fractionOf f) (exponentOf f) (two-or-more f))
-    (held-of f (infOf (fractionOf f) (exponentOf f) - 1))
+largest-held : (f : Format) → heldIn f (largestUnits f) ≡ true
+largest-held f = subst (λ (n : ℕ). heldIn f (n * stepOf f) ≡ true) (mag-largest (fractionOf f) (exponentOf f) (two-or-more f)) (held-of f (infIn f - 1))
 
 module _ (to : Kind) (f : Format) (q : formOf to ≡ floating f) where
-  largest-reached : (s : Bool) → (b : ℕ) × (value.numberOf (valueOf to b) ≡ number (signedOf s (largestIn f)))
+  largest-reached : (s : Bool) → (b : ℕ) × (value.numberOf (valueOf to b) ≡ number (signedOf s (largestUnits f)))
   largest-reached s =
-      let x = encodeOf f (largestIn f) in
+      let x = encodeOf f (largestUnits f) in
       let b = withSign f s x in
-      let finite-abs = encode-below f (largestIn f) (le-of-eq refl) (largest-held f) in
-      let low : x < signOf (fractionOf f) (exponentOf f) = omega (arith, inf-range f .1, finite-abs) in
+      let finite-abs = encode-below f (largestUnits f) (le-of-eq refl) (largest-held f) in
+      let low : x < signIn f = omega (arith, inf-range f .1, finite-abs) in
       let fits : b < 2 ^ widthIn (floating f) = omega (arith, made-small f s x low, pow-suc 2 (fractionOf f + exponentOf f)) in
       let bits = value-bits to b (subst (λ (form : Form). b < 2 ^ widthIn form) (sym q) fits) in
       let exact = content-pattern (contentOf (valueOf to b)) f (made-form to b ∙ q)
-      ∙ ap (λ (n : ℕ). times (stepOf f) (patternOf (fractionOf f) (exponentOf f) n)) bits
-      ∙ finite-made f s (largestIn f) (le-of-eq refl) (largest-held f) in
+      ∙ ap (λ (n : ℕ). times (stepOf f) (patternIn f n)) bits
+      ∙ finite-made f s (largestUnits f) (le-of-eq refl) (largest-held f) in
       (b, ap numberOf exact)
 
-  not-each : (s t : Bool) (m : ℕ) → m ≤ largestIn f → EachIs (cond t Greater Less) to (number (signedOf s m)) → ⊥
+  not-each : (s t : Bool) (m : ℕ) → m ≤ largestUnits f → EachIs (cond t Greater Less) to (number (signedOf s m)) → ⊥
   not-each s t m l each =
       let r = largest-reached t in
-      not-past s t m (largestIn f) l (sym (by-sign t (largestIn f) s m) ∙ each (r .0) (signedOf t (largestIn f)) (r .1))
+      not-past s t m (largestUnits f) l (sym (by-sign t (largestUnits f) s m) ∙ each (r .0) (signedOf t (largestUnits f)) (r .1))
 
   pub inside-not-beyond : (s : Bool) (m : ℕ) → outOfForm (floating f) s m ≡ false → Beyond (number (signedOf s m)) to → ⊥
   inside-not-beyond s m h (inl each) = not-each s false m (ltb-false _ _ h) each

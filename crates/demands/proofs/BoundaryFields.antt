@@ -26,12 +26,12 @@ use Rattle.record.specs.declared.Field.{Field}
 use Rattle.record.specs.declared.Place.{Place}
 use Rattle.record.specs.Record.{fieldFor, fieldsOf, placeFor, kindsIn, kindsOf}
 use Rattle.key.specs.Key.{nanRules}
-use Rattle.key.specs.Keyed.{Keyed, AllKeyed, normal, normalFields}
+use Rattle.key.specs.Keyed.{Keyed, AllKeyed, plusZeroIn, normal, normalFields}
 use Rattle.key.specs.Keyed as keyed
 use Rattle.silamogo.specs.declared.Sample.{Sample}
 use Rattle.silamogo.specs.Samples.{unnamed, anyUnnamed, kindFor, tooWide, firstWide, valueFor}
 use Rattle.silamogo.specs.Records.{sampleFor, pairedSamples, padded, fieldIn, recordFor, placeIn, shapeFor, fieldBits}
-use Rattle.demands.specs.BoundaryKeys.{FieldFits, AllFit, none, more, plusZeroIn, plusZeroBits, plusZeros}
+use Rattle.demands.specs.BoundaryKeys.{FieldFits, AllFit, none, more, plusZeroBits, plusZeros}
 use Rattle.demands.proofs.NormalBits.{normal-again, normal-bits}
 
 -- ---- the places of a record and of a shape

@@ -4,6 +4,7 @@ use mathlib.Core.Path.{_≡_, refl, sym, _∙_, ap}
 use mathlib.Core.Logic.{_⊎_, inl, inr, _↔_}
 use mathlib.Core.Bool.{Bool, true, false, not, cond, or-true}
 use lib.Ieee.{Float, binary32, toBits}
+use Rattle.float.specs.Format.{f32}
 use Rattle.float.specs.declared.Order.{Order}
 use Rattle.float.specs.declared.Order.the-variants.{Less, Equal, Greater, Unordered}
 use Rattle.float.specs.Number as float-number
@@ -137,7 +138,7 @@ clamps v lower upper = record {
 sample-order : (x y : Float) (u v : ℕ) → valueOrder (F32 x u) (F32 y v) ≡ sampleOrder x y
 unfolding float-order.compareOf
 sample-order x y u v =
-    sym (patterns-order binary32 (floatBits binary32 x u) (floatBits binary32 y v))
+    sym (patterns-order f32 (floatBits binary32 x u) (floatBits binary32 y v))
     ∙ ap (λ p. orderOf (float-number.numberOf p) (float-number.numberOf (patternOf 23 8 (floatBits binary32 y v)))) (same-pattern x u)
     ∙ ap (λ p. orderOf (float-number.numberOf (patternOf 23 8 (toBits binary32 x))) (float-number.numberOf p)) (same-pattern y v)
 

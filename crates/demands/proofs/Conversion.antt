@@ -3,8 +3,7 @@ use mathlib.Core.Path.{_≡_, subst}
 use mathlib.Core.Bool.{true}
 use mathlib.Core.Logic.{_↔_}
 use Prim.Native.Nat.{ℕ, _*_}
-use lib.Ieee.{Format}
-use Rattle.float.specs.Format.{fractionOf, magOf}
+use Rattle.float.specs.Format.{Format, magIn}
 use Rattle.value.specs.declared.Kind.{Kind}
 use Rattle.value.specs.declared.Value.{Value}
 use Rattle.value.specs.Kinds.{kindOf, kindNumber}
@@ -24,7 +23,7 @@ use Rattle.demands.proofs.Widening.{widens-means}
 pub other : (v : Value) (to : Kind) → Other v to → kindNumber (kindOf v) ≡ kindNumber to → ⊥
 other v to h q = h (number-injective (kindOf v) to q)
 
-held-means : (f : Format) (m : ℕ) → (heldIn f m ≡ true) ↔ ((a : ℕ) × (magOf (fractionOf f) a * stepOf f ≡ m))
+held-means : (f : Format) (m : ℕ) → (heldIn f m ≡ true) ↔ ((a : ℕ) × (magIn f a * stepOf f ≡ m))
 held-means f m = (λ h. (encodeOf f m, held-has f m h), λ has. subst (λ (n : ℕ). heldIn f n ≡ true) (has .1) (held-of f (has .0)))
 
 pub of-conversion : Conversion

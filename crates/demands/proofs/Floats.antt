@@ -6,18 +6,17 @@ use mathlib.Core.Bool.{Bool, true, false, cond}
 use mathlib.Core.List.{_∷_}
 use native.Mathlib.Omega.{arith}
 use borrow.Author.Tests.{ltb-true, eqb-true}
-use lib.Dec.{lit≤}
 use lib.IntN.{ℤ}
-use lib.Ieee.{Format, binary32, binary64}
 use Rattle.float.specs.declared.Class.the-variants.{Zero, Subnormal, Normal, Infinite, Nan}
 use Rattle.float.specs.declared.Order.{Order}
 use Rattle.float.specs.declared.Order.the-variants.{Less, Greater, Unordered}
-use Rattle.float.specs.Format.{fractionOf, exponentOf, signOf, negativeOf, infiniteOf, scaledOf}
+use Rattle.float.specs.Format.{Format, f32, f64, fractionOf, exponentOf, signOf, negativeOf, infiniteOf, scaledOf, positionIn}
 use Rattle.float.specs.Format as float-format
 use Rattle.float.specs.Number.{Number, number, infinityOf, times}
 use Rattle.float.specs.Number as float-number
-use Rattle.float.specs.Order.{orderZ, orderOf, patternOf, isEqual, isNotEqual, isLess, isLessOrEqual, isGreater, isGreaterOrEqual}
+use Rattle.float.specs.Order.{orderZ, orderOf, patternOf, isEqual, isNotEqual, isLess, isLessOrEqual, isGreater, isGreaterOrEqual, compareIn, patternIn}
 use Rattle.float.specs.Order as float-order
+use Rattle.float.proofs.Formats.{two-or-more}
 use Rattle.float.proofs.Tests.{clash}
 use Rattle.float.proofs.ClassMeaning.{class-means, number-scaled}
 use Rattle.float.proofs.ClassBounds.{class-bounds, finite-classes, class-only}
@@ -59,42 +58,47 @@ outside-right : (s : Bool) (z : ℤ) → orderOf (number z) (infinityOf s) ≡ c
 outside-right true z = refl
 outside-right false z = refl
 
-pub patterns : (p e : ℕ) → 2 ≤ e → Floats p e
-patterns p e h = record {
-  class-means = λ b. class-means p e b h;
-  class-only = λ b. class-only p e b h;
-  zero-class = λ b. class-bounds p e b enough Zero;
-  subnormal-class = λ b. class-bounds p e b enough Subnormal;
-  normal-class = λ b. class-bounds p e b enough Normal;
-  infinite-class = λ b. class-bounds p e b enough Infinite;
-  nan-class = λ b. class-bounds p e b enough Nan;
-  finite-classes = λ b. finite-classes p e b enough;
-  nan-left = λ a b n. sym (compare-nan-left p e a b refl (ltb-true _ _ n));
-  nan-right = λ a b n. sym (compare-nan-right p e a b refl (ltb-true _ _ n));
-  infinite-finite = λ a b i f. by-numbers p e a b (infinite-number p e a i) (number-scaled p e b f) ∙ outside-left (negativeOf p e a) (scaledOf p e b);
-  finite-infinite = λ a b f i. by-numbers p e a b (number-scaled p e a f) (infinite-number p e b i) ∙ outside-right (negativeOf p e b) (scaledOf p e a);
-  infinite-infinite = λ a b i j. by-numbers p e a b (infinite-number p e a i) (infinite-number p e b j);
-  finite-finite = λ a b f g. by-numbers p e a b (number-scaled p e a f) (number-scaled p e b g);
-  own-position = position-injective p e;
-  position-fits = λ b h. below-fits (signOf p e) (float-format.positionOf p e b) (position-fits p e b h);
-  position-reached = λ z h. let m = fits-below (signOf p e) z h in (patternAt p e z, pattern-lt p e z m, position-pattern p e z m);
-  nan-outside = nan-outside p e;
-  zeros-ordered = zeros-ordered p e;
-}
-  where
-    enough : 1 ≤ e
-    enough = omega arith
+module _ (k : Format) where
+  abbrev p : ℕ
+  p = fractionOf k
 
-pub of-format : (f : Format) → Floats (fractionOf f) (exponentOf f)
-of-format binary32 = patterns 23 8 (lit≤ tt)
-of-format binary64 = patterns 52 11 (lit≤ tt)
+  abbrev e : ℕ
+  e = exponentOf k
+
+  two : 2 ≤ e
+  two = two-or-more k
+
+  enough : 1 ≤ e
+  enough = omega (arith, two)
+
+  pub of-format : Floats k
+  of-format = record {
+    class-means = λ b. class-means p e b two;
+    class-only = λ b. class-only p e b two;
+    zero-class = λ b. class-bounds p e b enough Zero;
+    subnormal-class = λ b. class-bounds p e b enough Subnormal;
+    normal-class = λ b. class-bounds p e b enough Normal;
+    infinite-class = λ b. class-bounds p e b enough Infinite;
+    nan-class = λ b. class-bounds p e b enough Nan;
+    finite-classes = λ b. finite-classes p e b enough;
+    nan-left = λ a b n. sym (compare-nan-left p e a b refl (ltb-true _ _ n));
+    nan-right = λ a b n. sym (compare-nan-right p e a b refl (ltb-true _ _ n));
+    infinite-finite = λ a b i f. by-numbers p e a b (infinite-number p e a i) (number-scaled p e b f) ∙ outside-left (negativeOf p e a) (scaledOf p e b);
+    finite-infinite = λ a b f i. by-numbers p e a b (number-scaled p e a f) (infinite-number p e b i) ∙ outside-right (negativeOf p e b) (scaledOf p e a);
+    infinite-infinite = λ a b i j. by-numbers p e a b (infinite-number p e a i) (infinite-number p e b j);
+    finite-finite = λ a b f g. by-numbers p e a b (number-scaled p e a f) (number-scaled p e b g);
+    own-position = position-injective p e;
+    position-fits = λ b h. below-fits (signOf p e) (float-format.positionOf p e b) (position-fits p e b h);
+    position-reached = λ z h. let m = fits-below (signOf p e) z h in (patternAt p e z, pattern-lt p e z m, position-pattern p e z m);
+    nan-outside = nan-outside p e;
+    zeros-ordered = zeros-ordered p e;
+  }
 
 -- ---- values
 
 -- what a value of a float kind stands for, and its position, by its bits
 abbrev ByBits : Format → Value → Type 0
-ByBits f v = (exactOf v ≡ times (stepOf f) (patternOf (fractionOf f) (exponentOf f) (bitsOf v)))
-    × (positionOf v ≡ float-format.positionOf (fractionOf f) (exponentOf f) (bitsOf v))
+ByBits f v = (exactOf v ≡ times (stepOf f) (patternIn f (bitsOf v))) × (positionOf v ≡ positionIn f (bitsOf v))
 
 by-bits : (f : Format) (v : Value) → OfForm (floating f) v → ByBits f v
 by-bits f (U8 n) q = clash cc
@@ -105,18 +109,17 @@ by-bits f (I8 z) q = clash cc
 by-bits f (I16 z) q = clash cc
 by-bits f (I32 z) q = clash cc
 by-bits f (I64 z) q = clash cc
-by-bits f (F32 x w) q = let g : binary32 ≡ f = cc in subst (λ h. ByBits h (F32 x w)) g (refl, refl)
-by-bits f (F64 x w) q = let g : binary64 ≡ f = cc in subst (λ h. ByBits h (F64 x w)) g (refl, refl)
+by-bits f (F32 x w) q = let g : f32 ≡ f = cc in subst (λ h. ByBits h (F32 x w)) g (refl, refl)
+by-bits f (F64 x w) q = let g : f64 ≡ f = cc in subst (λ h. ByBits h (F64 x w)) g (refl, refl)
 
 module _ (f : Format) (a b : Value) (k : OneKind a b) (o : OfForm (floating f) a) where
   other : OfForm (floating f) b
   other = ap formOf (sym k) ∙ o
 
-  floats-compare : compareOf a b ≡ gives (float-order.compareOf (fractionOf f) (exponentOf f) (bitsOf a) (bitsOf b))
+  floats-compare : compareOf a b ≡ gives (compareIn f (bitsOf a) (bitsOf b))
   floats-compare = order-compared a b _ k (cc (by-bits f a o .0, by-bits f b other .0) ∙ sym (patterns-order f (bitsOf a) (bitsOf b)))
 
-  floats-total : totalOf a b
-      ≡ gives (orderZ (float-format.positionOf (fractionOf f) (exponentOf f) (bitsOf a)) (float-format.positionOf (fractionOf f) (exponentOf f) (bitsOf b)))
+  floats-total : totalOf a b ≡ gives (orderZ (positionIn f (bitsOf a)) (positionIn f (bitsOf b)))
   floats-total = order-total a b _ k (cc (by-bits f a o .1, by-bits f b other .1))
 
 integers-compare : (a b : Value) → OneIntegerKind a b → compareOf a b ≡ gives (orderZ (positionOf a) (positionOf b))

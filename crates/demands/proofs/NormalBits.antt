@@ -1,29 +1,20 @@
 -- A value as it is read is made again of its bits; they are the bits that were written, with plus zero's for minus zero's.
-use Prim.Native.Nat.{ℕ, _*_, _^_, _%_, _<_}
-use native.Mathlib.Nat.{mod-eq-of-lt}
+use Prim.Native.Nat.{ℕ, _+_, _*_, _^_, _%_, _<_}
+use native.Mathlib.Nat.{mod-eq-of-lt, pow-suc}
 use native.Mathlib.Omega.{arith}
-use mathlib.Core.Path.{_≡_, refl, sym, ap, _∙_, subst}
+use mathlib.Core.Path.{_≡_, refl, ap, _∙_, subst}
 use mathlib.Core.Bool.{Bool, true, false, cond}
 use lib.Dec.{eqb}
-use lib.Ieee.{Float, Format, binary32, binary64, ofBits}
-use Rattle.float.specs.Format.{fractionOf, exponentOf, signOf}
-use Rattle.float.specs.Number.{isNone}
-use Rattle.float.proofs.Language.{below-top}
+use Rattle.float.specs.Format.{fractionOf, exponentOf, signIn}
 use Rattle.value.specs.declared.Kind.{Kind}
 use Rattle.value.specs.declared.Kind.the-variants as kind
 use Rattle.value.specs.declared.Value.{Value}
-use Rattle.value.specs.Kinds.{Form, floating, formOf, kindOf, widthOf}
-use Rattle.value.specs.Meaning.{Content, natural, integer, real, contentOf, floatBits, bitsIn, bitsOf, InRange, exactIn, valueOf}
-use Rattle.value.proofs.FloatBits.{bits-pattern}
-use Rattle.value.proofs.MadeValues.{low-bits, bits-made}
-use Rattle.value.proofs.Ranges.{formIn, content-form, bits-range}
-use Rattle.value.proofs.Widths.{kind-sized}
-use Rattle.key.specs.Key.{floatKey, patternFrom}
-use Rattle.key.specs.Keyed.{Keyed, plusZero, floatValue, normalIn, normal}
-use Rattle.key.proofs.FloatKeys.{from-key}
-use Rattle.key.proofs.FloatFields.{float-read, word-read}
+use Rattle.value.specs.Kinds.{Form, floating, formOf, kindOf, widthIn, widthOf}
+use Rattle.value.specs.Meaning.{Content, natural, integer, real, contentOf, bitsIn, bitsOf, valueOf}
+use Rattle.value.proofs.MadeValues.{low-bits, bits-made, value-bits}
+use Rattle.value.proofs.Ranges.{formIn, content-form, Ranged, content-ranged}
+use Rattle.key.specs.Keyed.{Keyed, plusZeroIn, madeNormal, normal}
 use Rattle.key.proofs.FieldKeys.{field-read}
-use Rattle.demands.specs.BoundaryKeys.{plusZeroIn}
 
 -- ---- values made again of their bits
 
@@ -51,14 +42,6 @@ normal-again v h q =
 
 -- ---- the bits of a value made normal
 
-float-value : (f : Format) (x : Float) → bitsOf (floatValue f x) ≡ floatBits f x 0
-float-value binary32 x = refl
-float-value binary64 x = refl
-
-float-range : (f : Format) (x : Float) (w : ℕ) → InRange (real f x w) → floatBits f x w < 2 * signOf (fractionOf f) (exponentOf f)
-float-range binary32 x w r = bits-range (real binary32 x w) (kind-sized kind.F32) r
-float-range binary64 x w r = bits-range (real binary64 x w) (kind-sized kind.F64) r
-
 plus-zero-below : (b m half : ℕ) → b < m → cond (eqb b half) 0 b < m
 plus-zero-below b m half h = go (eqb b half)
   where
@@ -66,29 +49,16 @@ plus-zero-below b m half h = go (eqb b half)
     go true = omega arith
     go false = h
 
--- the float that is read is the one of the bits that are read, which are those of the float with plus zero for minus zero
-float-normal : (f : Format) (x : Float) (w : ℕ) → InRange (real f x w) → isNone (exactIn (real f x w)) ≡ false
-    → bitsOf (floatValue f (plusZero f x)) ≡ plusZeroIn (floating f) (floatBits f x w)
-float-normal f x w r s =
-    let half : ℕ = signOf (fractionOf f) (exponentOf f) in
-    let b : ℕ = floatBits f x w in
-    let read : ℕ = patternFrom half (floatKey half b) % (2 * half) in
-    let below = plus-zero-below b (2 * half) half (float-range f x w r) in
-    let is : read ≡ cond (eqb b half) 0 b =
-    ap (λ (n : ℕ). n % (2 * half)) (from-key (fractionOf f) (exponentOf f) b (float-range f x w r)) ∙ mod-eq-of-lt below in
-    float-value f (plusZero f x)
-    ∙ ap (λ (y : Float). floatBits f y 0) (sym (float-read f x w (r .0) s))
-    ∙ ap (floatBits f (ofBits f read)) (sym (word-read f x w (r .0) s))
-    ∙ bits-pattern f read (below-top f read (rw is below))
-    ∙ is
-
-content-normal : (v : Value) (c : Content) → contentOf v ≡ c → InRange c → isNone (exactIn c) ≡ false
-    → bitsOf (normalIn c v) ≡ plusZeroIn (formIn c) (bitsIn c)
-content-normal v (natural k n) q r s = ap bitsIn q
-content-normal v (integer k z) q r s = ap bitsIn q
-content-normal v (real f x w) q r s = float-normal f x w r s
+content-normal : (v : Value) (c : Content) → contentOf v ≡ c → formIn c ≡ formOf (kindOf v) → Ranged c
+    → bitsOf (madeNormal c v) ≡ plusZeroIn (formIn c) (bitsIn c)
+content-normal v (natural k n) q form r = ap bitsIn q
+content-normal v (integer k z) q form r = ap bitsIn q
+content-normal v (real f b) q form r =
+    let below : plusZeroIn (floating f) b < 2 ^ widthIn (floating f) =
+    omega (arith, plus-zero-below b (2 * signIn f) (signIn f) r, pow-suc 2 (fractionOf f + exponentOf f)) in
+    value-bits (kindOf v) (plusZeroIn (floating f) b) (subst (λ (other : Form). plusZeroIn (floating f) b < 2 ^ widthIn other) form below)
 
 pub normal-bits : (v : Value) → Keyed v → bitsOf (normal v) ≡ plusZeroIn (formOf (kindOf v)) (bitsOf v)
 normal-bits v h =
-    content-normal v (contentOf v) refl (h .in-range) (h .some-number)
+    content-normal v (contentOf v) refl (content-form v) (content-ranged v (h .in-range))
     ∙ ap (λ (form : Form). plusZeroIn form (bitsOf v)) (content-form v)

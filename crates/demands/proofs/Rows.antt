@@ -10,7 +10,7 @@ use borrow.Author.Tests.{eq-eqb, eqb-true, not-false}
 use lib.Dec.{eqb, lit<}
 use lib.ListN.{length, getD}
 use lib.Ieee.{Float, nan, binary32, toBits, ofBits}
-use Rattle.float.specs.Format.{nanOf, absOf}
+use Rattle.float.specs.Format.{f32, nanOf, absOf}
 use Rattle.float.specs.Number.{isNone}
 use Rattle.float.specs.declared.Order.the-variants.{Unordered}
 use Rattle.float.specs.Order.{isLessOrEqual, isUnordered, patternOf}
@@ -148,13 +148,13 @@ module _ (v : Value) (w : Value) where
   f32-told h =
       let x = exactOf v in
       let a = made kind.F32 h in
-      let b = patternFor binary32 x in
+      let b = patternFor f32 x in
       let number : nanOf 23 8 b ≡ false =
       sym (none-pattern 23 8 b)
-      ∙ sym (times-none (stepOf binary32) (patternOf 23 8 b))
-      ∙ ap isNone (made-float binary32 x (a .0))
+      ∙ sym (times-none (stepOf f32) (patternOf 23 8 b))
+      ∙ ap isNone (made-float f32 x (a .0))
       ∙ a .0 .some-number in
-      subst (λ u. u ≡ F32 (floatOf u) 0) (a .1) (ap (F32 (ofBits binary32 b)) (sym (word-none 23 8 b (sym number))))
+      subst (λ u. u ≡ F32 (floatOf u) 0) (a .1) (ap (F32 (ofBits binary32 b)) (sym (word-none f32 b (sym number))))
 
 -- the conversion of a sample is that of its value
 u8-u16 : (m n : ℕ) → u8ToU16 m ≡ gives n → convertOf (U8 m) kind.U16 ≡ gives (U16 n)

@@ -1,21 +1,19 @@
 -- Demand 3 of the boundary's calls, in kind numbers, bits and bytes. RULES.md: Keys, The boundary.
 use Prim.Native.Nat.{ℕ, _≤_}
 use mathlib.Core.Path.{_≡_}
-use mathlib.Core.Bool.{false, cond}
+use mathlib.Core.Bool.{false}
 use mathlib.Core.Logic.{_↔_}
 use mathlib.Core.List.{List, [], _∷_, _++_, map}
-use lib.Dec.{eqb}
 use lib.ListN.{length, drop, getD}
 use Rattle.float.specs.declared.Order.the-variants.{Equal}
-use Rattle.float.specs.Format.{fractionOf, exponentOf, signOf}
 use Rattle.float.specs.Number.{isNone}
 use Rattle.float.specs.Order.{orderN}
-use Rattle.value.specs.Kinds.{Form, unsigned, signed, floating, formOf}
+use Rattle.value.specs.Kinds.{formOf}
 use Rattle.value.specs.Meaning.{exactOf}
 use Rattle.value.specs.Outcome.{gives, done}
 use Rattle.record.specs.Record.{badCount}
 use Rattle.bytewise.specs.Numbers.{Bytes}
-use Rattle.key.specs.Keyed.{recordKey}
+use Rattle.key.specs.Keyed.{plusZeroIn, recordKey}
 use Rattle.silamogo.specs.declared.Sample.{Sample}
 use Rattle.silamogo.specs.Samples.{unnamed, kindFor, tooWide, valueFor}
 use Rattle.silamogo.specs.Records.{sampleFor, pairedSamples, recordFor, recordsOrder, keyLength, keyExit, recordRead, readExit, successOf}
@@ -44,12 +42,6 @@ abbrev pub keyFor : List ℕ → List ℕ → List ℕ
 keyFor ns bs = recordKey (recordFor (pairedSamples ns bs))
 
 -- ---- what reading makes of bits
-
--- the sign bit of a float alone is minus zero, and 0 is plus zero; an integer's bits stay as they are
-abbrev pub plusZeroIn : Form → ℕ → ℕ
-plusZeroIn (unsigned k) b = b
-plusZeroIn (signed k) b = b
-plusZeroIn (floating f) b = cond (eqb b (signOf (fractionOf f) (exponentOf f))) 0 b
 
 -- the bits of a sample, minus zero made plus zero
 abbrev pub plusZeroBits : Sample → ℕ

@@ -3,13 +3,12 @@ use Prim.Native.Nat.{ℕ, _*_, _%_, _^_, _<_}
 use mathlib.Core.Path.{_≡_}
 use mathlib.Core.Logic.{_↔_}
 use mathlib.Core.Bool.{Bool, true}
-use lib.Ieee.{Format}
-use Rattle.float.specs.Format.{fractionOf, magOf}
+use Rattle.float.specs.Format.{Format, magIn}
 use Rattle.float.specs.Number.{infinite, finite, notNumber, none}
 use Rattle.value.specs.declared.Kind.{Kind}
 use Rattle.value.specs.declared.Value.{Value}
 use Rattle.value.specs.Kinds.{kindOf, floating, formOf, isInteger, widthOf}
-use Rattle.value.specs.Meaning.{exactOf, numberOf, valueOf, bitsOf, stepOf, contentOf, InRange}
+use Rattle.value.specs.Meaning.{exactOf, numberOf, valueOf, bitsOf, stepOf, InRange}
 use Rattle.value.specs.Outcome.{gives, refuses}
 use Rattle.convert.specs.Convert.{convertOf, heldIn}
 use Rattle.convert.specs.Widening.{widens}
@@ -37,7 +36,7 @@ pub record Conversion : Type 0 where
   -- no refusal hides a number that exists
   pub none-hidden : (v : Value) (to : Kind) → Other v to → (n p : ℕ) → convertOf v to ≡ refuses n p → HoldsNumberOf v to → ⊥
   -- a float format holds a magnitude, its range aside, exactly when some abs has that magnitude
-  pub held-means : (f : Format) (m : ℕ) → (heldIn f m ≡ true) ↔ ((a : ℕ) × (magOf (fractionOf f) a * stepOf f ≡ m))
+  pub held-means : (f : Format) (m : ℕ) → (heldIn f m ≡ true) ↔ ((a : ℕ) × (magIn f a * stepOf f ≡ m))
   -- between float kinds infinities and zeros keep their sign
   pub sign-kept : (v : Value) (to : Kind) (f : Format) → Other v to → formOf to ≡ floating f → (w : Value) → convertOf v to ≡ gives w → exactOf w ≡ exactOf v
   -- "infinities pass only between float kinds, NaN never"
@@ -50,13 +49,13 @@ pub record Conversion : Type 0 where
   -- the forms tell exactly when a kind has room for every number of another
   pub widens-means : (from to : Kind) → (widens (formOf from) (formOf to) ≡ true) ↔ HoldsAllOf from to
   -- and to such a kind nothing but a NaN is refused
-  pub widened : (v : Value) (to : Kind) → InRange (contentOf v) → Other v to → widens (formOf (kindOf v)) (formOf to) ≡ true → (numberOf v ≡ none → ⊥)
+  pub widened : (v : Value) (to : Kind) → InRange v → Other v to → widens (formOf (kindOf v)) (formOf to) ≡ true → (numberOf v ≡ none → ⊥)
       → (w : Value) × (convertOf v to ≡ gives w)
   -- there and back is the same bits, but for a minus zero through an integer kind
-  pub there-and-back : (v : Value) (to : Kind) → InRange (contentOf v) → Other v to → (isInteger (formOf to) ≡ true → exactOf v ≡ finite true 0 → ⊥)
+  pub there-and-back : (v : Value) (to : Kind) → InRange v → Other v to → (isInteger (formOf to) ≡ true → exactOf v ≡ finite true 0 → ⊥)
       → (w : Value) → convertOf v to ≡ gives w → (u : Value) × (convertOf w (kindOf v) ≡ gives u) × (bitsOf u ≡ bitsOf v)
   -- the value of a kind with some bits is of that kind and has these bits
   pub pattern-made : (k : Kind) (b : ℕ) → (kindOf (valueOf k b) ≡ k) × (bitsOf (valueOf k b) ≡ b % 2 ^ widthOf k)
   -- a value in range is told by its kind and its bits: the value made of them has the same bits and stands for the same
-  pub value-of-bits : (v : Value) → InRange (contentOf v) → (bitsOf v < 2 ^ widthOf (kindOf v))
+  pub value-of-bits : (v : Value) → InRange v → (bitsOf v < 2 ^ widthOf (kindOf v))
       × (bitsOf (valueOf (kindOf v) (bitsOf v)) ≡ bitsOf v) × (exactOf (valueOf (kindOf v) (bitsOf v)) ≡ exactOf v)

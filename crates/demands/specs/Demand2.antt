@@ -1,6 +1,5 @@
 -- Demand 2: classes, comparison, total order, conversion, records and choosing are what the rules say. RULES.md: Bits and classes to Records.
-use lib.Ieee.{Format}
-use Rattle.float.specs.Format.{fractionOf, exponentOf}
+use Rattle.float.specs.Format.{Format}
 use Rattle.demands.specs.Floats.{Floats, Values}
 use Rattle.demands.specs.Conversion.{Conversion}
 use Rattle.demands.specs.WhichRefusal.{WhichRefusal}
@@ -10,7 +9,7 @@ use Rattle.demands.specs.LentRows.{LentRows}
 
 -- the demand, sentence by sentence
 pub record Demand2 : Type 1 where
-  pub floats : (f : Format) → Floats (fractionOf f) (exponentOf f)
+  pub floats : (f : Format) → Floats f
   pub values : Values
   pub conversion : Conversion
   pub which-refusal : WhichRefusal

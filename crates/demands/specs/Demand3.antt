@@ -8,7 +8,7 @@ use lib.ListN.{length, take, drop, getD}
 use Rattle.float.specs.declared.Order.{Order}
 use Rattle.float.specs.declared.Order.the-variants.{Equal}
 use Rattle.float.specs.Order.{orderN}
-use Rattle.value.specs.Meaning.{contentOf, InRange}
+use Rattle.value.specs.Meaning.{InRange}
 use Rattle.value.specs.Outcome.{gives}
 use Rattle.record.specs.declared.Record.{Record}
 use Rattle.record.specs.declared.Shape.{Shape}
@@ -33,7 +33,7 @@ pub record DifferAt (i : ℕ) (k l : List ℕ) : Type 0 where
 pub record Held : Type 0 where
   -- a program can hold a record exactly if it has twelve places, a value in range in each, and a count in 64 bits
   pub records : (r : Record)
-      → HeldRecord r ↔ ((length (r .fields) ≡ 12) × ((at : ℕ) → InRange (contentOf (valueAt (r .fields) at))) × (r .count < 2 ^ 64))
+      → HeldRecord r ↔ ((length (r .fields) ≡ 12) × ((at : ℕ) → InRange (valueAt (r .fields) at)) × (r .count < 2 ^ 64))
   -- a shape alike
   pub shapes : (s : Shape) → HeldShape s ↔ ((length (s .places) ≡ 12) × (s .count < 2 ^ 64))
   -- and what a lent row of u8 tells is that it is bytes

@@ -5,16 +5,13 @@ use mathlib.Core.Logic.{_↔_, _⊎_}
 use mathlib.Core.Bool.{Bool, true, false, not, cond}
 use mathlib.Core.List.{List, [], _∷_}
 use lib.IntN.{ℤ}
-use lib.Ieee.{Format}
 use Rattle.float.specs.declared.Class.{Class}
 use Rattle.float.specs.declared.Class.the-variants.{Zero, Subnormal, Normal, Infinite, Nan}
 use Rattle.float.specs.declared.Order.the-variants.{Less, Equal, Greater, Unordered}
-use Rattle.float.specs.Format.{fractionOf, exponentOf, signOf, negativeOf, zeroOf, subnormalOf, normalOf, finiteOf, infiniteOf, nanOf, classOf, scaledOf}
-use Rattle.float.specs.Format as float-format
+use Rattle.float.specs.Format.{Format, signIn, negativeIn, zeroIn, subnormalIn, normalIn, finiteIn, infiniteIn, nanIn, classIn, scaledIn, positionIn}
 use Rattle.float.specs.Number.{infinityOf}
-use Rattle.float.specs.Order.{orderZ, orderOf}
-use Rattle.float.specs.Order as float-order
-use Rattle.float.specs.ClassMeaning.{ClassMeans}
+use Rattle.float.specs.Order.{orderZ, orderOf, compareIn}
+use Rattle.float.specs.ClassMeaning.{MeansIn}
 use Rattle.value.specs.declared.Value.{Value}
 use Rattle.value.specs.Kinds.{kindOf, Form, floating, formOf}
 use Rattle.value.specs.Meaning.{fitsSigned, bitsOf, positionOf}
@@ -24,38 +21,38 @@ use Rattle.laws_cmp.specs.Laws.{PartialOrder, LinearOrder, OneKind, OneIntegerK
 
 -- ---- "Classes, comparison and total order are IEEE 754-2019's", of each float format, by the patterns
 
--- a format of p fraction and e exponent bits
-pub record Floats (p e : ℕ) : Type 0 where
+-- of a format
+pub record Floats (f : Format) : Type 0 where
   -- a pattern of each class stands for what the class says
-  pub class-means : (b : ℕ) → ClassMeans p e b (classOf p e b)
+  pub class-means : (b : ℕ) → MeansIn f b (classIn f b)
   -- and it is so of no other class
-  pub class-only : (b : ℕ) (c : Class) → ClassMeans p e b c → c ≡ classOf p e b
+  pub class-only : (b : ℕ) (c : Class) → MeansIn f b c → c ≡ classIn f b
   -- each class by its own bounds of abs
-  pub zero-class : (b : ℕ) → (zeroOf p e b ≡ true) ↔ (classOf p e b ≡ Zero)
-  pub subnormal-class : (b : ℕ) → (subnormalOf p e b ≡ true) ↔ (classOf p e b ≡ Subnormal)
-  pub normal-class : (b : ℕ) → (normalOf p e b ≡ true) ↔ (classOf p e b ≡ Normal)
-  pub infinite-class : (b : ℕ) → (infiniteOf p e b ≡ true) ↔ (classOf p e b ≡ Infinite)
-  pub nan-class : (b : ℕ) → (nanOf p e b ≡ true) ↔ (classOf p e b ≡ Nan)
+  pub zero-class : (b : ℕ) → (zeroIn f b ≡ true) ↔ (classIn f b ≡ Zero)
+  pub subnormal-class : (b : ℕ) → (subnormalIn f b ≡ true) ↔ (classIn f b ≡ Subnormal)
+  pub normal-class : (b : ℕ) → (normalIn f b ≡ true) ↔ (classIn f b ≡ Normal)
+  pub infinite-class : (b : ℕ) → (infiniteIn f b ≡ true) ↔ (classIn f b ≡ Infinite)
+  pub nan-class : (b : ℕ) → (nanIn f b ≡ true) ↔ (classIn f b ≡ Nan)
   -- the finite patterns are those of three classes
-  pub finite-classes : (b : ℕ) → (finiteOf p e b ≡ true) ↔ ((classOf p e b ≡ Zero) ⊎ ((classOf p e b ≡ Subnormal) ⊎ (classOf p e b ≡ Normal)))
+  pub finite-classes : (b : ℕ) → (finiteIn f b ≡ true) ↔ ((classIn f b ≡ Zero) ⊎ ((classIn f b ≡ Subnormal) ⊎ (classIn f b ≡ Normal)))
   -- NaN on either side gives Unordered
-  pub nan-left : (a b : ℕ) → nanOf p e a ≡ true → float-order.compareOf p e a b ≡ Unordered
-  pub nan-right : (a b : ℕ) → nanOf p e b ≡ true → float-order.compareOf p e a b ≡ Unordered
+  pub nan-left : (a b : ℕ) → nanIn f a ≡ true → compareIn f a b ≡ Unordered
+  pub nan-right : (a b : ℕ) → nanIn f b ≡ true → compareIn f a b ≡ Unordered
   -- infinities lie outside all finite values and equal themselves
-  pub infinite-finite : (a b : ℕ) → infiniteOf p e a ≡ true → finiteOf p e b ≡ true → float-order.compareOf p e a b ≡ cond (negativeOf p e a) Less Greater
-  pub finite-infinite : (a b : ℕ) → finiteOf p e a ≡ true → infiniteOf p e b ≡ true → float-order.compareOf p e a b ≡ cond (negativeOf p e b) Greater Less
-  pub infinite-infinite : (a b : ℕ) → infiniteOf p e a ≡ true → infiniteOf p e b ≡ true
-      → float-order.compareOf p e a b ≡ orderOf (infinityOf (negativeOf p e a)) (infinityOf (negativeOf p e b))
+  pub infinite-finite : (a b : ℕ) → infiniteIn f a ≡ true → finiteIn f b ≡ true → compareIn f a b ≡ cond (negativeIn f a) Less Greater
+  pub finite-infinite : (a b : ℕ) → finiteIn f a ≡ true → infiniteIn f b ≡ true → compareIn f a b ≡ cond (negativeIn f b) Greater Less
+  pub infinite-infinite : (a b : ℕ) → infiniteIn f a ≡ true → infiniteIn f b ≡ true
+      → compareIn f a b ≡ orderOf (infinityOf (negativeIn f a)) (infinityOf (negativeIn f b))
   -- else the scaled numbers decide
-  pub finite-finite : (a b : ℕ) → finiteOf p e a ≡ true → finiteOf p e b ≡ true → float-order.compareOf p e a b ≡ orderZ (scaledOf p e a) (scaledOf p e b)
+  pub finite-finite : (a b : ℕ) → finiteIn f a ≡ true → finiteIn f b ≡ true → compareIn f a b ≡ orderZ (scaledIn f a) (scaledIn f b)
   -- every pattern has its own position, and the positions are the signed numbers of the width
-  pub own-position : (a b : ℕ) → float-format.positionOf p e a ≡ float-format.positionOf p e b → a ≡ b
-  pub position-fits : (b : ℕ) → b < 2 * signOf p e → fitsSigned (signOf p e) (float-format.positionOf p e b)
-  pub position-reached : (z : ℤ) → fitsSigned (signOf p e) z → (b : ℕ) × (b < 2 * signOf p e) × (float-format.positionOf p e b ≡ z)
+  pub own-position : (a b : ℕ) → positionIn f a ≡ positionIn f b → a ≡ b
+  pub position-fits : (b : ℕ) → b < 2 * signIn f → fitsSigned (signIn f) (positionIn f b)
+  pub position-reached : (z : ℤ) → fitsSigned (signIn f) z → (b : ℕ) × (b < 2 * signIn f) × (positionIn f b ≡ z)
   -- in the total order the NaN lie outside all other patterns, by their sign, and minus zero lies below plus zero
-  pub nan-outside : (a b : ℕ) → nanOf p e a ≡ true → nanOf p e b ≡ false
-      → orderZ (float-format.positionOf p e a) (float-format.positionOf p e b) ≡ cond (negativeOf p e a) Less Greater
-  pub zeros-ordered : orderZ (float-format.positionOf p e (signOf p e)) (float-format.positionOf p e 0) ≡ Less
+  pub nan-outside : (a b : ℕ) → nanIn f a ≡ true → nanIn f b ≡ false
+      → orderZ (positionIn f a) (positionIn f b) ≡ cond (negativeIn f a) Less Greater
+  pub zeros-ordered : orderZ (positionIn f (signIn f)) (positionIn f 0) ≡ Less
 
 -- ---- the same of values
 
@@ -91,10 +88,9 @@ pub record Tests : Type 0 where
 pub record Values : Type 0 where
   -- floats of one kind by their bits
   pub floats-compare : (f : Format) (a b : Value) → OneKind a b → OfForm (floating f) a
-      → compareOf a b ≡ gives (float-order.compareOf (fractionOf f) (exponentOf f) (bitsOf a) (bitsOf b))
+      → compareOf a b ≡ gives (compareIn f (bitsOf a) (bitsOf b))
   pub floats-total : (f : Format) (a b : Value) → OneKind a b → OfForm (floating f) a
-      → totalOf a b ≡ gives
-      (orderZ (float-format.positionOf (fractionOf f) (exponentOf f) (bitsOf a)) (float-format.positionOf (fractionOf f) (exponentOf f) (bitsOf b)))
+      → totalOf a b ≡ gives (orderZ (positionIn f (bitsOf a)) (positionIn f (bitsOf b)))
   -- integers by their number, in both orders
   pub integers-compare : (a b : Value) → OneIntegerKind a b → compareOf a b ≡ gives (orderZ (positionOf a) (positionOf b))
   pub integers-total : (a b : Value) → OneIntegerKind a b → totalOf a b ≡ gives (orderZ (positionOf a) (positionOf b))

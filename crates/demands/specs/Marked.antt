@@ -8,7 +8,8 @@ use Rattle.float.specs.declared.Class.{Class}
 use Rattle.float.specs.declared.Class.the-variants.{Subnormal, Normal, Infinite, Nan}
 use Rattle.float.specs.declared.Order.{Order}
 use Rattle.float.specs.declared.Order.the-variants.{Less, Equal, Unordered}
-use Rattle.float.specs.Format.{classOf, scaledOf}
+use Rattle.float.specs.Format as format
+use Rattle.float.specs.Format.{classIn, scaledIn}
 use Rattle.value.specs.declared.Kind.{Kind}
 use Rattle.value.specs.declared.Kind.the-variants as kind
 use Rattle.value.specs.declared.Value.{Value}
@@ -52,8 +53,8 @@ recordFor vs = recordOf (map fieldFor vs)
 
 -- what the rules answer
 unfoldable pub answerTo : Question → Answer
-answerTo (class-f32 b) = a-class (classOf 23 8 b)
-answerTo (scaled-f32 b) = a-number (scaledOf 23 8 b)
+answerTo (class-f32 b) = a-class (classIn format.f32 b)
+answerTo (scaled-f32 b) = a-number (scaledIn format.f32 b)
 answerTo (compare a b) = an-order (compareOf a b)
 answerTo (total-order a b) = an-order (totalOf a b)
 answerTo (convert v to) = a-value (convertOf v to)

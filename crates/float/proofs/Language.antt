@@ -8,16 +8,17 @@ use native.Mathlib.Nat.{mul-one, mul-comm, suc-mul, le-of-lt, mod-lt, mod-eq-of-
 use native.Mathlib.Nat.{div-add-mod', le-div-iff-mul-le, div-lt-iff-lt-mul, mul-div-cancel}
 use native.Mathlib.Omega.{arith}
 use borrow.Author.Tests.{lt-ltb, le-ltb, eq-eqb, ne-eqb}
-use lib.Dec.{T, ltb, eqb, leb, lit<}
+use lib.Dec.{T, ltb, eqb, leb}
 use lib.IntN.{ℤ}
 use lib.Arith.{mod-mul}
 use lib.Pow.{pow-pos, pow-add}
 use lib.Ieee.{Float, nan, inf, fin, Format, binary32, binary64, prec, low, up, down, hid, ones, top, odd, ofFields, ofBits, toBits, isNan, fits}
 use lib.Ieee.Exact.{HasValue, odd-sign}
 use lib.Ieee.Bits.{ofBits-toBits, toBits-lt}
-use Rattle.float.specs.Format.{fractionOf, exponentOf, signOf, infOf, negativeOf, absOf, nanOf, magAt, magOf}
+use Rattle.float.specs.Format.{signOf, infOf, negativeOf, absOf, nanOf, magAt, magOf, fractionOf, exponentOf, signIn, nanIn}
+use Rattle.float.specs.Language.{ownOf}
 use Rattle.float.specs.Number.{Exact, notNumber, infinite, finite, isNone, times}
-use Rattle.float.specs.Order.{patternOf}
+use Rattle.float.specs.Order.{patternOf, patternIn}
 use Rattle.float.proofs.Naturals.{lt-or-ge, three-ways}
 use Rattle.float.proofs.Magnitude.{abs-clear, abs-set}
 
@@ -35,11 +36,11 @@ of-value f (fin t m e) s a v = subst (λ (b : Bool). Means f (fin t m e) (finite
 
 -- ---- the language's numbers of a format are powers of two
 
-hidden : (f : Format) → hid f ≡ 2 ^ fractionOf f
+hidden : (f : Format) → hid f ≡ 2 ^ fractionOf (ownOf f)
 hidden binary32 = refl
 hidden binary64 = refl
 
-all-ones : (f : Format) → ones f ≡ 2 ^ exponentOf f - 1
+all-ones : (f : Format) → ones f ≡ 2 ^ exponentOf (ownOf f) - 1
 all-ones binary32 = refl
 all-ones binary64 = refl
 
@@ -47,16 +48,12 @@ some-ones : (f : Format) → eqb 0 (ones f) ≡ false
 some-ones binary32 = refl
 some-ones binary64 = refl
 
-pub sign-top : (f : Format) → top f ≡ signOf (fractionOf f) (exponentOf f)
+pub sign-top : (f : Format) → top f ≡ signIn (ownOf f)
 sign-top binary32 = refl
 sign-top binary64 = refl
 
-pub below-top : (f : Format) (b : ℕ) → b < 2 * signOf (fractionOf f) (exponentOf f) → b < 2 * top f
+pub below-top : (f : Format) (b : ℕ) → b < 2 * signIn (ownOf f) → b < 2 * top f
 below-top f b h = subst (λ (n : ℕ). b < 2 * n) (sym (sign-top f)) h
-
-pub infinity-positive : (f : Format) → 0 < infOf (fractionOf f) (exponentOf f)
-infinity-positive binary32 = lit< tt
-infinity-positive binary64 = lit< tt
 
 -- ---- the fields of a pattern: sign, exponent and fraction; `last` is the exponent field of all ones
 
@@ -67,13 +64,13 @@ module _ (f : Format) (s : Bool) where
   fields-value : (m x : ℕ) → Means f (odd (prec f) s m x (low f)) (finite s (m * 2 ^ x))
   fields-value m x = of-value f _ s (m * 2 ^ x) (odd-sign (prec f) s m x (low f))
 
-  fields-mean : (E t : ℕ) → Means f (ofFields f s E t) (fieldsExact (fractionOf f) (ones f) s E t)
+  fields-mean : (E t : ℕ) → Means f (ofFields f s E t) (fieldsExact (fractionOf (ownOf f)) (ones f) s E t)
   unfolding ofFields
   fields-mean zero t = rw (some-ones f) (subst (λ (a : ℕ). Means f (odd (prec f) s t 0 (low f)) (finite s a)) (mul-one t) (fields-value t 0))
   fields-mean (suc x) t = go (eqb (suc x) (ones f)) (eqb t 0)
     where
       go : (b c : Bool) → Means f (cond b (cond c (inf s) nan) (odd (prec f) s (hid f + t) x (low f)))
-          (cond b (cond c (infinite s) notNumber) (finite s ((2 ^ fractionOf f + t) * 2 ^ x)))
+          (cond b (cond c (infinite s) notNumber) (finite s ((2 ^ fractionOf (ownOf f) + t) * 2 ^ x)))
       go true true = means-inf s
       go true false = means-nan
       go false c = subst (λ (h : ℕ). Means f (odd (prec f) s (hid f + t) x (low f)) (finite s ((h + t) * 2 ^ x))) (hidden f) (fields-value (hid f + t) x)
@@ -155,11 +152,11 @@ module _ (p e : ℕ) where
       ∙ ap (byAbs (leb (signOf p e) b)) (abs-rest b h)
 
 -- the float of a pattern, and a float with its pattern
-pub pattern-means : (f : Format) (b : ℕ) → b < 2 * top f → Means f (ofBits f b) (patternOf (fractionOf f) (exponentOf f) b)
+pub pattern-means : (f : Format) (b : ℕ) → b < 2 * top f → Means f (ofBits f b) (patternIn (ownOf f) b)
 unfolding ofBits
 pattern-means f b h =
-    let p = fractionOf f in
-    let e = exponentOf f in
+    let p = fractionOf (ownOf f) in
+    let e = exponentOf (ownOf f) in
     let is : fieldsExact p (ones f) (leb (top f) b) (b % top f / hid f) (b % hid f) ≡ patternOf p e b =
     ap (λ (n : ℕ). fieldsExact p n (leb (top f) b) (b % top f / hid f) (b % hid f)) (all-ones f)
     ∙ ap (λ (n : ℕ). fieldsExact p (last p e) (leb (top f) b) (b % top f / n) (b % n)) (hidden f)
@@ -167,8 +164,8 @@ pattern-means f b h =
     ∙ fields-pattern p e b (subst (λ (n : ℕ). b < 2 * n) (sign-top f) h) in
     subst (λ (k : Exact). Means f (ofBits f b) k) is (fields-mean f (leb (top f) b) (b % top f / hid f) (b % hid f))
 
-pub float-means : (f : Format) (x : Float) → T (fits f x) → Means f x (patternOf (fractionOf f) (exponentOf f) (toBits f x))
-float-means f x h = subst (λ (v : Float). Means f v (patternOf (fractionOf f) (exponentOf f) (toBits f x))) (ofBits-toBits f x h)
+pub float-means : (f : Format) (x : Float) → T (fits f x) → Means f x (patternIn (ownOf f) (toBits f x))
+float-means f x h = subst (λ (v : Float). Means f v (patternIn (ownOf f) (toBits f x))) (ofBits-toBits f x h)
     (pattern-means f (toBits f x) (toBits-lt f x h))
 
 -- ---- NaN
@@ -193,8 +190,8 @@ none-pattern p e b = go (nanOf p e b) (eqb (absOf p e b) (infOf p e))
     go false true = refl
     go false false = refl
 
-pub nan-pattern : (f : Format) (b : ℕ) → b < 2 * top f → isNan (ofBits f b) ≡ nanOf (fractionOf f) (exponentOf f) b
-nan-pattern f b h = nan-means f (pattern-means f b h) ∙ none-pattern (fractionOf f) (exponentOf f) b
+pub nan-pattern : (f : Format) (b : ℕ) → b < 2 * top f → isNan (ofBits f b) ≡ nanIn (ownOf f) b
+nan-pattern f b h = nan-means f (pattern-means f b h) ∙ none-pattern (fractionOf (ownOf f)) (exponentOf (ownOf f)) b
 
-pub nan-float : (f : Format) (x : Float) → T (fits f x) → isNone (patternOf (fractionOf f) (exponentOf f) (toBits f x)) ≡ isNan x
+pub nan-float : (f : Format) (x : Float) → T (fits f x) → isNone (patternIn (ownOf f) (toBits f x)) ≡ isNan x
 nan-float f x h = sym (nan-means f (float-means f x h))

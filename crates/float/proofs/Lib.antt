@@ -6,6 +6,7 @@ pub mod Place
 pub mod Comparing
 pub mod SameNumber
 pub mod Language
+pub mod Formats
 pub mod Operators
 pub mod ClassMeaning
 pub mod ClassBounds

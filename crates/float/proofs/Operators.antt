@@ -10,9 +10,9 @@ use lib.Pow.{pow-pos}
 use lib.IntN.{ℤ}
 use lib.Ieee.{Float, Format, low, up, down, toBits, lt, le, eq, ne, below, level, fits}
 use lib.Ieee.Fits.{down-pos}
-use Rattle.float.specs.Format.{fractionOf, exponentOf}
+use Rattle.float.specs.Language.{ownOf}
 use Rattle.float.specs.Number.{signedOf, Exact, numberOf}
-use Rattle.float.specs.Order.{orderZ, orderOf, compareOf, isLess, isEqual, isNotEqual, isLessOrEqual}
+use Rattle.float.specs.Order.{orderZ, orderOf, compareOf, compareIn, isLess, isEqual, isNotEqual, isLessOrEqual}
 use Rattle.float.specs.declared.Order.{Order}
 use Rattle.float.specs.declared.Order.the-variants.{Less, Equal, Greater, Unordered}
 use Rattle.float.proofs.Naturals.{less-test, equal-test, eqb-turned}
@@ -108,7 +108,7 @@ not-equal Unordered = refl
 -- the language's operators on two floats that their type holds are the tests of the comparison of their bits
 module _ (f : Format) (x y : Float) (hx : T (fits f x)) (hy : T (fits f y)) where
   abbrev compared : Order
-  compared = compareOf (fractionOf f) (exponentOf f) (toBits f x) (toBits f y)
+  compared = compareIn (ownOf f) (toBits f x) (toBits f y)
 
   pub lt-is : lt x y ≡ isLess compared
   unfolding compareOf

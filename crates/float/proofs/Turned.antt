@@ -8,9 +8,9 @@ use lib.Dec.{T}
 use lib.IntN.{ℤ, pos, negsuc}
 use lib.Signed.{ltZ}
 use lib.Ieee.{Float, Format, toBits, isNan, fits}
-use Rattle.float.specs.Format.{fractionOf, exponentOf}
+use Rattle.float.specs.Language.{ownOf}
 use Rattle.float.specs.Number.{signedOf, Exact, notNumber, infinite, finite, isNone, Number, none, minusInfinity, plusInfinity, number, numberOf}
-use Rattle.float.specs.Order.{orderZ, orderOf, patternOf, compareOf, isUnordered, isLess, isGreater}
+use Rattle.float.specs.Order.{orderZ, orderOf, patternOf, compareOf, patternIn, compareIn, isUnordered, isLess, isGreater}
 use Rattle.float.specs.declared.Order.{Order}
 use Rattle.float.specs.declared.Order.the-variants.{Less, Equal, Greater, Unordered}
 use Rattle.float.proofs.Comparing.{unordered-right}
@@ -89,8 +89,8 @@ unordered-none (finite s m) (infinite false) = refl
 unordered-none (finite s m) (finite t n) = integers-ordered (signedOf s m) (signedOf t n)
 
 pub unordered-nan : (f : Format) (x y : Float) → T (fits f x) → T (fits f y)
-    → isUnordered (compareOf (fractionOf f) (exponentOf f) (toBits f x) (toBits f y)) ≡ (isNan x || isNan y)
+    → isUnordered (compareIn (ownOf f) (toBits f x) (toBits f y)) ≡ (isNan x || isNan y)
 unfolding compareOf
 unordered-nan f x y h k =
-    unordered-none (patternOf (fractionOf f) (exponentOf f) (toBits f x)) (patternOf (fractionOf f) (exponentOf f) (toBits f y))
+    unordered-none (patternIn (ownOf f) (toBits f x)) (patternIn (ownOf f) (toBits f y))
     ∙ cc (nan-float f x h, nan-float f y k)

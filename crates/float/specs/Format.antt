@@ -1,23 +1,12 @@
 -- A float format by its number p of fraction bits and e of exponent bits: what a bit pattern b of it says, in whole numbers.
--- RULES.md: Bits and classes, Scaled numbers, Total order. f32 is 23 8, f64 is 52 11.
+-- RULES.md: Bits and classes, Scaled numbers, Total order. The formats themselves, and each definition for a format, stand at the end.
 use Prim.Native.Nat.{ℕ, zero, suc, _+_, _-_, _*_, _/_, _%_, _^_}
 use mathlib.Core.Bool.{Bool, _&&_, cond}
 use lib.Dec.{ltb, leb, eqb}
 use lib.IntN.{ℤ, pos, negsuc}
-use lib.Ieee as language
 use Rattle.float.specs.declared.Class.{Class}
 use Rattle.float.specs.declared.Class.the-variants.{Zero, Subnormal, Normal, Infinite, Nan}
 use Rattle.float.specs.Number.{signedOf}
-
--- p of the language's two formats
-abbrev pub fractionOf : language.Format → ℕ
-fractionOf language.binary32 = 23
-fractionOf language.binary64 = 52
-
--- e of the two
-abbrev pub exponentOf : language.Format → ℕ
-exponentOf language.binary32 = 8
-exponentOf language.binary64 = 11
 
 -- the weight of the sign bit: 0x8000_0000 for f32
 abbrev pub signOf : ℕ → ℕ → ℕ
@@ -83,3 +72,67 @@ scaledOf p e b = signedOf (negativeOf p e b) (magOf p (absOf p e b))
 -- the position: abs for a clear sign bit, -1 - abs for a set one
 unfoldable pub positionOf : ℕ → ℕ → ℕ → ℤ
 positionOf p e b = cond (negativeOf p e b) (negsuc (absOf p e b)) (pos (absOf p e b))
+
+-- ---- the formats, and what is said above of one of them
+
+-- a format is one value
+pub data Format : Type 0 where
+  f32 f64 : Format
+
+-- its p
+abbrev pub fractionOf : Format → ℕ
+fractionOf f32 = 23
+fractionOf f64 = 52
+
+-- its e
+abbrev pub exponentOf : Format → ℕ
+exponentOf f32 = 8
+exponentOf f64 = 11
+
+-- the weight of its sign bit
+abbrev pub signIn : Format → ℕ
+signIn f = signOf (fractionOf f) (exponentOf f)
+
+-- the bits of its plus infinity
+abbrev pub infIn : Format → ℕ
+infIn f = infOf (fractionOf f) (exponentOf f)
+
+-- of a pattern of it: the sign bit, and the bits without it
+abbrev pub negativeIn : Format → ℕ → Bool
+negativeIn f b = negativeOf (fractionOf f) (exponentOf f) b
+
+abbrev pub absIn : Format → ℕ → ℕ
+absIn f b = absOf (fractionOf f) (exponentOf f) b
+
+-- the tests
+abbrev pub finiteIn : Format → ℕ → Bool
+finiteIn f b = finiteOf (fractionOf f) (exponentOf f) b
+
+abbrev pub infiniteIn : Format → ℕ → Bool
+infiniteIn f b = infiniteOf (fractionOf f) (exponentOf f) b
+
+abbrev pub nanIn : Format → ℕ → Bool
+nanIn f b = nanOf (fractionOf f) (exponentOf f) b
+
+abbrev pub zeroIn : Format → ℕ → Bool
+zeroIn f b = zeroOf (fractionOf f) (exponentOf f) b
+
+abbrev pub subnormalIn : Format → ℕ → Bool
+subnormalIn f b = subnormalOf (fractionOf f) (exponentOf f) b
+
+abbrev pub normalIn : Format → ℕ → Bool
+normalIn f b = normalOf (fractionOf f) (exponentOf f) b
+
+-- the class
+abbrev pub classIn : Format → ℕ → Class
+classIn f b = classOf (fractionOf f) (exponentOf f) b
+
+-- the scaled magnitude of an abs, the scaled number and the position of a pattern
+abbrev pub magIn : Format → ℕ → ℕ
+magIn f x = magOf (fractionOf f) x
+
+abbrev pub scaledIn : Format → ℕ → ℤ
+scaledIn f b = scaledOf (fractionOf f) (exponentOf f) b
+
+abbrev pub positionIn : Format → ℕ → ℤ
+positionIn f b = positionOf (fractionOf f) (exponentOf f) b

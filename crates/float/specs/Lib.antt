@@ -7,3 +7,5 @@ pub mod Number
 pub mod Order
 -- what a pattern of each class stands for
 pub mod ClassMeaning
+-- the language's formats among these
+pub mod Language

@@ -6,7 +6,7 @@ use lib.IntN.{ℤ}
 use lib.Signed.{ltZ}
 use Rattle.float.specs.declared.Order.{Order}
 use Rattle.float.specs.declared.Order.the-variants.{Less, Equal, Greater, Unordered}
-use Rattle.float.specs.Format.{absOf, negativeOf, infiniteOf, nanOf, magOf}
+use Rattle.float.specs.Format.{absOf, negativeOf, infiniteOf, nanOf, magOf, Format, fractionOf, exponentOf}
 use Rattle.float.specs.Number.{Exact, notNumber, infinite, finite, Number, none, minusInfinity, plusInfinity, number, numberOf}
 
 -- two natural numbers, and two integers
@@ -49,6 +49,13 @@ patternOf p e b =
 -- two patterns compare as the numbers that they stand for
 unfoldable pub compareOf : ℕ → ℕ → ℕ → ℕ → Order
 compareOf p e a b = orderOf (numberOf (patternOf p e a)) (numberOf (patternOf p e b))
+
+-- the same of a format
+abbrev pub patternIn : Format → ℕ → Exact
+patternIn f b = patternOf (fractionOf f) (exponentOf f) b
+
+abbrev pub compareIn : Format → ℕ → ℕ → Order
+compareIn f a b = compareOf (fractionOf f) (exponentOf f) a b
 
 -- a test of an order, by its answers on Less, Equal, Greater and Unordered
 abbrev pub answer : Bool → Bool → Bool → Bool → Order → Bool

@@ -1,9 +1,9 @@
 // The sign, and what the other bits say. RULES.md: Bits and classes.
 ghost use mathlib.Core.Path.{_≡_};
-ghost use Rattle.float.specs.Format.{absOf, negativeOf, finiteOf, infiniteOf, nanOf};
+ghost use Rattle.float.specs.Format.{f32, f64, absIn, negativeIn, finiteIn, infiniteIn, nanIn};
 
 pub fn abs_f32(bits: u32) -> u32
-    ensures { λ r. ⌜ r ≡ absOf 23 8 bits ⌝ }
+    ensures { λ r. ⌜ r ≡ absIn f32 bits ⌝ }
 {
     if bits < 0x8000_0000 {
         bits
@@ -13,7 +13,7 @@ pub fn abs_f32(bits: u32) -> u32
 }
 
 pub fn abs_f64(bits: u64) -> u64
-    ensures { λ r. ⌜ r ≡ absOf 52 11 bits ⌝ }
+    ensures { λ r. ⌜ r ≡ absIn f64 bits ⌝ }
 {
     if bits < 0x8000_0000_0000_0000 {
         bits
@@ -23,49 +23,49 @@ pub fn abs_f64(bits: u64) -> u64
 }
 
 pub fn is_sign_negative_f32(bits: u32) -> bool
-    ensures { λ r. ⌜ r ≡ negativeOf 23 8 bits ⌝ }
+    ensures { λ r. ⌜ r ≡ negativeIn f32 bits ⌝ }
 {
     0x8000_0000 <= bits
 }
 
 pub fn is_sign_negative_f64(bits: u64) -> bool
-    ensures { λ r. ⌜ r ≡ negativeOf 52 11 bits ⌝ }
+    ensures { λ r. ⌜ r ≡ negativeIn f64 bits ⌝ }
 {
     0x8000_0000_0000_0000 <= bits
 }
 
 pub fn is_finite_f32(bits: u32) -> bool
-    ensures { λ r. ⌜ r ≡ finiteOf 23 8 bits ⌝ }
+    ensures { λ r. ⌜ r ≡ finiteIn f32 bits ⌝ }
 {
     abs_f32(bits) < 0x7f80_0000
 }
 
 pub fn is_finite_f64(bits: u64) -> bool
-    ensures { λ r. ⌜ r ≡ finiteOf 52 11 bits ⌝ }
+    ensures { λ r. ⌜ r ≡ finiteIn f64 bits ⌝ }
 {
     abs_f64(bits) < 0x7ff0_0000_0000_0000
 }
 
 pub fn is_infinite_f32(bits: u32) -> bool
-    ensures { λ r. ⌜ r ≡ infiniteOf 23 8 bits ⌝ }
+    ensures { λ r. ⌜ r ≡ infiniteIn f32 bits ⌝ }
 {
     abs_f32(bits) == 0x7f80_0000
 }
 
 pub fn is_infinite_f64(bits: u64) -> bool
-    ensures { λ r. ⌜ r ≡ infiniteOf 52 11 bits ⌝ }
+    ensures { λ r. ⌜ r ≡ infiniteIn f64 bits ⌝ }
 {
     abs_f64(bits) == 0x7ff0_0000_0000_0000
 }
 
 pub fn is_nan_f32(bits: u32) -> bool
-    ensures { λ r. ⌜ r ≡ nanOf 23 8 bits ⌝ }
+    ensures { λ r. ⌜ r ≡ nanIn f32 bits ⌝ }
 {
     0x7f80_0000 < abs_f32(bits)
 }
 
 pub fn is_nan_f64(bits: u64) -> bool
-    ensures { λ r. ⌜ r ≡ nanOf 52 11 bits ⌝ }
+    ensures { λ r. ⌜ r ≡ nanIn f64 bits ⌝ }
 {
     0x7ff0_0000_0000_0000 < abs_f64(bits)
 }

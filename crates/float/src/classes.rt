@@ -1,12 +1,12 @@
 // The five classes. RULES.md: Bits and classes.
 ghost use mathlib.Core.Path.{_≡_};
-ghost use Rattle.float.specs.Format.{classOf};
+ghost use Rattle.float.specs.Format.{f32, f64, classIn};
 use crate::Class;
 use crate::bits::abs_f32;
 use crate::bits::abs_f64;
 
 pub fn class_f32(bits: u32) -> Class
-    ensures { λ r. ⌜ r ≡ classOf 23 8 bits ⌝ }
+    ensures { λ r. ⌜ r ≡ classIn f32 bits ⌝ }
 {
     let x = abs_f32(bits);
     if 0x7f80_0000 < x {
@@ -23,7 +23,7 @@ pub fn class_f32(bits: u32) -> Class
 }
 
 pub fn class_f64(bits: u64) -> Class
-    ensures { λ r. ⌜ r ≡ classOf 52 11 bits ⌝ }
+    ensures { λ r. ⌜ r ≡ classIn f64 bits ⌝ }
 {
     let x = abs_f64(bits);
     if 0x7ff0_0000_0000_0000 < x {

@@ -1,9 +1,9 @@
 // The order of two whole numbers, and of two patterns of one float kind. RULES.md: Comparison.
 // Patterns that are no NaN order as their bits past the sign do when these are read with the sign: no scaled number is ever formed.
 ghost use mathlib.Core.Path.{_≡_};
-ghost use Rattle.float.specs.Format.{absOf, negativeOf};
+ghost use Rattle.float.specs.Format.{f32, f64, absIn, negativeIn};
 ghost use Rattle.float.specs.Number.{signedOf};
-ghost use Rattle.float.specs.Order.{orderN, orderZ, compareOf};
+ghost use Rattle.float.specs.Order.{orderN, orderZ, compareIn};
 use crate::Order;
 use crate::bits::abs_f32;
 use crate::bits::abs_f64;
@@ -34,21 +34,21 @@ pub fn order_i64(m: i64, n: i64) -> Order
 
 // abs with the sign: both zeros are 0.
 fn signed_f32(bits: u32) -> i64
-    ensures { λ r. ⌜ r ≡ signedOf (negativeOf 23 8 bits) (absOf 23 8 bits) ⌝ }
+    ensures { λ r. ⌜ r ≡ signedOf (negativeIn f32 bits) (absIn f32 bits) ⌝ }
 {
     let x = abs_f32(bits) as i64;
     if bits < 0x8000_0000 { x } else { -x }
 }
 
 fn signed_f64(bits: u64) -> i64
-    ensures { λ r. ⌜ r ≡ signedOf (negativeOf 52 11 bits) (absOf 52 11 bits) ⌝ }
+    ensures { λ r. ⌜ r ≡ signedOf (negativeIn f64 bits) (absIn f64 bits) ⌝ }
 {
     let x = abs_f64(bits) as i64;
     if bits < 0x8000_0000_0000_0000 { x } else { -x }
 }
 
 pub fn compare_f32(a: u32, b: u32) -> Order
-    ensures { λ r. ⌜ r ≡ compareOf 23 8 a b ⌝ }
+    ensures { λ r. ⌜ r ≡ compareIn f32 a b ⌝ }
 {
     if 0x7f80_0000 < abs_f32(a) {
         return Order::Unordered;
@@ -60,7 +60,7 @@ pub fn compare_f32(a: u32, b: u32) -> Order
 }
 
 pub fn compare_f64(a: u64, b: u64) -> Order
-    ensures { λ r. ⌜ r ≡ compareOf 52 11 a b ⌝ }
+    ensures { λ r. ⌜ r ≡ compareIn f64 a b ⌝ }
 {
     if 0x7ff0_0000_0000_0000 < abs_f64(a) {
         return Order::Unordered;

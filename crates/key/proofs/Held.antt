@@ -13,7 +13,7 @@ use Rattle.value.specs.declared.Kind.{Kind}
 use Rattle.value.specs.declared.Kind.the-variants as kind
 use Rattle.value.specs.declared.Value.the-variants.{U8}
 use Rattle.value.specs.Kinds.{kindOf}
-use Rattle.value.specs.Meaning.{contentOf, InRange, exactOf}
+use Rattle.value.specs.Meaning.{InRange, exactOf}
 use Rattle.value.specs.Outcome.{gives}
 use Rattle.value.proofs.Outcomes.{refuse-passes}
 use Rattle.record.specs.declared.Field.{Field}
@@ -87,7 +87,7 @@ kinds-count : (r : Record) → length (r .fields) ≡ 12 → badCount (r .count)
 kinds-count r twelve good =
     length-map (fieldsOf r) (λ (f : Field). kindOf (f .value)) ∙ length-take-le (r .count) (r .fields) (omega (arith, good-count (r .count) good))
 
-keyed-take : (n : ℕ) (fs : List Field) → ((at : ℕ) → InRange (contentOf (valueAt fs at)))
+keyed-take : (n : ℕ) (fs : List Field) → ((at : ℕ) → InRange (valueAt fs at))
     → ((at : ℕ) → at < n → isNone (exactOf (valueAt fs at)) ≡ false) → AllKeyed (take n fs)
 keyed-take zero fs h k = none
 keyed-take (suc n) [] h k = none
@@ -139,12 +139,12 @@ alike-held s a b p q same h held no-nan =
 
 -- ---- what has a key can be held
 
-blank-places : (n at : ℕ) → InRange (contentOf (valueAt (replicate n (fieldFor (U8 0))) at))
+blank-places : (n at : ℕ) → InRange (valueAt (replicate n (fieldFor (U8 0))) at)
 blank-places zero at = omega arith
 blank-places (suc n) zero = omega arith
 blank-places (suc n) (suc at) = blank-places n at
 
-keyed-places : (n : ℕ) {fs : List Field} → AllKeyed fs → (at : ℕ) → InRange (contentOf (valueAt (fs ++ replicate n (fieldFor (U8 0))) at))
+keyed-places : (n : ℕ) {fs : List Field} → AllKeyed fs → (at : ℕ) → InRange (valueAt (fs ++ replicate n (fieldFor (U8 0))) at)
 keyed-places n none at = blank-places n at
 keyed-places n (more f fs h a) zero = h .in-range
 keyed-places n (more f fs h a) (suc at) = keyed-places n a at

@@ -8,21 +8,21 @@ use lib.IntN.{ℤ, pos, negsuc}
 use lib.Pow.{pow-mono, pow-lt}
 use Rattle.float.specs.Format.{fractionOf, exponentOf, absOf}
 use Rattle.float.specs.Number.{isNone}
-use Rattle.float.specs.Order.{patternOf}
+use Rattle.float.specs.Order.{patternIn}
 use Rattle.float.proofs.Language.{times-none, none-pattern}
 use Rattle.value.specs.declared.Kind.{Kind}
 use Rattle.value.specs.declared.Layout.{Layout}
 use Rattle.value.specs.declared.Layout.the-variants as layout
 use Rattle.value.specs.declared.Value.{Value}
 use Rattle.value.specs.Kinds.{Form, unsigned, signed, floating, formOf, layoutFor, widthIn, kindOf, bytesOf}
-use Rattle.value.specs.Meaning.{Content, natural, integer, real, contentOf, InRange, fitsSigned, twosOf, floatBits, bitsOf, stepOf, exactIn, exactOf}
+use Rattle.value.specs.Meaning.{Content, natural, integer, real, contentOf, InRange, fitsSigned, twosOf, bitsOf, stepOf, exactIn, exactOf}
 use Rattle.value.specs.Meaning as value
 use Rattle.key.specs.declared.Weights.{Weights}
 use Rattle.key.specs.declared.Weights.the-variants as weights
 use Rattle.key.specs.Key.{shifted, floatKey, patternFrom, keyIn, keyNumber, bitsFrom, notCanonical}
-use Rattle.key.specs.Inner.{weightsFor, InWeights, numberByWeights, bitsByWeights, absIn, nanIn, foreignIn}
+use Rattle.key.specs.Inner.{weightsFor, InWeights, numberByWeights, bitsByWeights, absByWeight, nanByWeights, foreignByWeights}
 use Rattle.value.proofs.Widths.{Sized, kind-sized}
-use Rattle.value.proofs.Ranges.{formIn, content-form, twice-half, bits-range}
+use Rattle.value.proofs.Ranges.{formIn, content-form, Ranged, content-ranged, twice-half, bits-range}
 
 -- ---- the steps of the code
 
@@ -52,10 +52,10 @@ module _ (half n : ℕ) where
   pub pattern-positive : half ≤ n → n - half ≡ patternFrom half n
   pattern-positive h = rw (le-ltb n half h)
 
-  pub abs-negative : half ≤ n → n - half ≡ absIn half n
+  pub abs-negative : half ≤ n → n - half ≡ absByWeight half n
   abs-negative h = rw (le-leb half n h)
 
-  pub abs-positive : n < half → n ≡ absIn half n
+  pub abs-positive : n < half → n ≡ absByWeight half n
   abs-positive h = rw (lt-leb half n h)
 
 -- ---- the weights, as the code has them from the layout
@@ -125,17 +125,17 @@ turned-shifted : (half : ℕ) (z : ℤ) → fitsSigned half z → (twosOf (2 * h
 turned-shifted half (pos n) h = sym (turned-low half n h) ∙ omega arith
 turned-shifted half (negsuc n) h = sym (turned-high half (2 * half - 1 - n) (omega arith) (omega arith)) ∙ omega arith
 
-content-number : (x : Content) → Sized (formIn x) → InRange x → numberByWeights (weightsFor (formIn x)) (value.bitsIn x) ≡ keyIn x
+content-number : (x : Content) → Sized (formIn x) → Ranged x → numberByWeights (weightsFor (formIn x)) (value.bitsIn x) ≡ keyIn x
 content-number (natural k n) s r = refl
 content-number (integer k z) s r = rw (← twice-half k (omega (arith, s .0))) (turned-shifted (2 ^ (k - 1)) z r)
-content-number (real f x w) s r = refl
+content-number (real f b) s r = refl
 
 pub form-bits : (form : Form) (n : ℕ) → Sized form → bitsByWeights (weightsFor form) n ≡ bitsFrom form n
 form-bits (unsigned k) n s = refl
 form-bits (signed k) n s = ap (λ (m : ℕ). (n + 2 ^ (k - 1)) % m) (twice-half k (omega (arith, s .0)))
 form-bits (floating f) n s = refl
 
-pub form-foreign : (form : Form) (n : ℕ) → foreignIn (weightsFor form) (bitsByWeights (weightsFor form) n) ≡ notCanonical form n
+pub form-foreign : (form : Form) (n : ℕ) → foreignByWeights (weightsFor form) (bitsByWeights (weightsFor form) n) ≡ notCanonical form n
 unfolding absOf
 form-foreign (unsigned k) n = refl
 form-foreign (signed k) n = refl
@@ -143,13 +143,12 @@ form-foreign (floating f) n = refl
 
 -- ---- no number
 
-content-none : (x : Content) → nanIn (weightsFor (formIn x)) (value.bitsIn x) ≡ isNone (exactIn x)
+content-none : (x : Content) → nanByWeights (weightsFor (formIn x)) (value.bitsIn x) ≡ isNone (exactIn x)
 unfolding absOf
 content-none (natural k n) = refl
 content-none (integer k (pos n)) = refl
 content-none (integer k (negsuc n)) = refl
-content-none (real f x w) =
-    sym (times-none (stepOf f) (patternOf (fractionOf f) (exponentOf f) (floatBits f x w)) ∙ none-pattern (fractionOf f) (exponentOf f) (floatBits f x w))
+content-none (real f b) = sym (times-none (stepOf f) (patternIn f b) ∙ none-pattern (fractionOf f) (exponentOf f) b)
 
 -- ---- a value, by its kind and its bits
 
@@ -157,18 +156,18 @@ module _ (v : Value) {k : Kind} {b : ℕ} {l : Weights} (k-is : k ≡ kindOf v) 
   own-weights : l ≡ weightsFor (formIn (contentOf v))
   own-weights = l-is ∙ ap (λ (j : Kind). weightsFor (formOf j)) k-is ∙ sym (ap weightsFor (content-form v))
 
-  pub value-none : nanIn l b ≡ isNone (exactOf v)
+  pub value-none : nanByWeights l b ≡ isNone (exactOf v)
   value-none = rw (own-weights, b-is) (content-none (contentOf v))
 
-  module _ (r : InRange (contentOf v)) where
+  module _ (r : InRange v) where
     own-sized : Sized (formIn (contentOf v))
     own-sized = subst Sized (sym (content-form v)) (kind-sized (kindOf v))
 
     pub value-room : InWeights l b
-    value-room = rw (own-weights, b-is) (form-room (formIn (contentOf v)) (bitsOf v) own-sized (bits-range (contentOf v) own-sized r))
+    value-room = rw (own-weights, b-is) (form-room (formIn (contentOf v)) (bitsOf v) own-sized (bits-range (contentOf v) own-sized (content-ranged v r)))
 
     pub value-number : numberByWeights l b ≡ keyNumber v
-    value-number = rw (own-weights, b-is) (content-number (contentOf v) own-sized r)
+    value-number = rw (own-weights, b-is) (content-number (contentOf v) own-sized (content-ranged v r))
 
 -- ---- a number of as many bytes as the kind has
 

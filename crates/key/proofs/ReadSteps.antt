@@ -28,7 +28,7 @@ use Rattle.record.proofs.Twelve.{good-count}
 use Rattle.key.specs.declared.Weights.{Weights}
 use Rattle.bytewise.specs.Numbers.{fromBigEndian}
 use Rattle.key.specs.Key.{bitsFrom, notCanonical, bytesIn, readOf}
-use Rattle.key.specs.Inner.{weightsFor, bitsByWeights, foreignIn, readFields}
+use Rattle.key.specs.Inner.{weightsFor, bitsByWeights, foreignByWeights, readFields}
 use Rattle.key.proofs.Passing.{read-none, read-more, read-by}
 use Rattle.value.proofs.Widths.{kind-sized}
 use Rattle.key.proofs.KeyNumbers.{form-bits, form-foreign}
@@ -160,12 +160,12 @@ module _ (s : Shape) (few : s .count ≤ 12) (twelve : length (s .places) ≡ 12
       read-room = (w-is .2, omega (arith, bytes-left, filled .1, w-is .0))
 
       module _ {n : ℕ} (n-is : n ≡ fromBigEndian 0 (take w (drop from key))) {l : Weights} (l-is : l ≡ weightsFor (formOf k))
-          {b : ℕ} (b-is : b ≡ bitsByWeights l n) {t : Bool} (t-is : t ≡ foreignIn l b) where
+          {b : ℕ} (b-is : b ≡ bitsByWeights l n) {t : Bool} (t-is : t ≡ foreignByWeights l b) where
         own-bits : b ≡ bitsFrom (formOf k) n
         own-bits = b-is ∙ ap (λ (i : Weights). bitsByWeights i n) l-is ∙ form-bits (formOf k) n (kind-sized k)
 
         own-test : t ≡ notCanonical (formOf k) n
-        own-test = t-is ∙ ap (foreignIn l) b-is ∙ ap (λ (i : Weights). foreignIn i (bitsByWeights i n)) l-is ∙ form-foreign (formOf k) n
+        own-test = t-is ∙ ap (foreignByWeights l) b-is ∙ ap (λ (i : Weights). foreignByWeights i (bitsByWeights i n)) l-is ∙ form-foreign (formOf k) n
 
         abbrev rest : Outcome (List Field)
         rest = readFields (suc at) (drop (suc at) ks) (drop (from + w) key)

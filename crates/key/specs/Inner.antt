@@ -6,7 +6,7 @@ use mathlib.Core.Bool.{Bool, false, _||_, cond}
 use mathlib.Core.List.{List, _∷_, _++_}
 use lib.Dec.{eqb, ltb, leb}
 use lib.ListN.{length, take, drop}
-use Rattle.float.specs.Format.{fractionOf, exponentOf, signOf, infOf}
+use Rattle.float.specs.Format.{signIn, infIn}
 use Rattle.value.specs.Kinds.{Form, unsigned, signed, floating, formOf}
 use Rattle.value.specs.Outcome.{Outcome, gives, refuseIf, mapped}
 use Rattle.value.specs.Rules.{chain}
@@ -23,7 +23,7 @@ use Rattle.key.specs.declared.Weights.the-variants as weights
 abbrev pub weightsFor : Form → Weights
 weightsFor (unsigned k) = weights.Unsigned
 weightsFor (signed k) = weights.Signed (2 ^ (k - 1))
-weightsFor (floating f) = weights.Float (signOf (fractionOf f) (exponentOf f)) (infOf (fractionOf f) (exponentOf f))
+weightsFor (floating f) = weights.Float (signIn f) (infIn f)
 
 -- n has no bit above the sign bit, and that fits a word
 abbrev pub InWeights : Weights → ℕ → Type 0
@@ -43,18 +43,18 @@ bitsByWeights (weights.Signed half) n = (n + half) % (2 * half)
 bitsByWeights (weights.Float half infinity) n = patternFrom half n
 
 -- a NaN, and what no key stands for
-abbrev pub absIn : ℕ → ℕ → ℕ
-absIn half b = cond (leb half b) (b - half) b
+abbrev pub absByWeight : ℕ → ℕ → ℕ
+absByWeight half b = cond (leb half b) (b - half) b
 
-abbrev pub nanIn : Weights → ℕ → Bool
-nanIn weights.Unsigned b = false
-nanIn (weights.Signed half) b = false
-nanIn (weights.Float half infinity) b = ltb infinity (absIn half b)
+abbrev pub nanByWeights : Weights → ℕ → Bool
+nanByWeights weights.Unsigned b = false
+nanByWeights (weights.Signed half) b = false
+nanByWeights (weights.Float half infinity) b = ltb infinity (absByWeight half b)
 
-abbrev pub foreignIn : Weights → ℕ → Bool
-foreignIn weights.Unsigned b = false
-foreignIn (weights.Signed half) b = false
-foreignIn (weights.Float half infinity) b = ltb infinity (absIn half b) || eqb b half
+abbrev pub foreignByWeights : Weights → ℕ → Bool
+foreignByWeights weights.Unsigned b = false
+foreignByWeights (weights.Signed half) b = false
+foreignByWeights (weights.Float half infinity) b = ltb infinity (absByWeight half b) || eqb b half
 
 -- bytes k laid into l from a place on
 unfoldable pub put : ℕ → List ℕ → List ℕ → List ℕ

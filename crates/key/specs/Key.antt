@@ -5,12 +5,12 @@ use mathlib.Core.List.{List, [], _∷_, _++_, map}
 use lib.Dec.{eqb, ltb, leb}
 use lib.ListN.{length, take, drop}
 use lib.IntN.{ℤ, pos, negsuc}
-use Rattle.float.specs.Format.{fractionOf, exponentOf, signOf, nanOf}
+use Rattle.float.specs.Format.{signIn, nanIn}
 use Rattle.float.specs.Number.{isNone}
 use Rattle.value.specs.declared.Kind.{Kind}
 use Rattle.value.specs.declared.Value.{Value}
 use Rattle.value.specs.Kinds.{Form, unsigned, signed, floating, formOf, kindOf, bytesOf}
-use Rattle.value.specs.Meaning.{Content, natural, integer, real, contentOf, exactOf, floatBits, valueOf}
+use Rattle.value.specs.Meaning.{Content, natural, integer, real, contentOf, exactOf, valueOf}
 use Rattle.value.specs.Outcome.{Outcome, gives, refusalOf, lentAfter}
 use Rattle.value.specs.Rules.{Rule, rule, chain, eachOf}
 use Rattle.record.specs.declared.Field.{Field}
@@ -39,7 +39,7 @@ floatKey half b =
 abbrev pub keyIn : Content → ℕ
 keyIn (natural k n) = n
 keyIn (integer k z) = shifted (2 ^ (k - 1)) z
-keyIn (real f x w) = floatKey (signOf (fractionOf f) (exponentOf f)) (floatBits f x w)
+keyIn (real f b) = floatKey (signIn f) b
 
 -- the key of a value, as a number
 abbrev pub keyNumber : Value → ℕ
@@ -92,15 +92,13 @@ patternFrom half n = cond (ltb n half) (2 * half - 1 - n) (n - half)
 abbrev pub bitsFrom : Form → ℕ → ℕ
 bitsFrom (unsigned k) n = n
 bitsFrom (signed k) n = (n + 2 ^ (k - 1)) % 2 ^ k
-bitsFrom (floating f) n = patternFrom (signOf (fractionOf f) (exponentOf f)) n
+bitsFrom (floating f) n = patternFrom (signIn f) n
 
 -- 12: a float that would be a NaN or minus zero
 abbrev pub notCanonical : Form → ℕ → Bool
 notCanonical (unsigned k) n = false
 notCanonical (signed k) n = false
-notCanonical (floating f) n =
-    nanOf (fractionOf f) (exponentOf f) (patternFrom (signOf (fractionOf f) (exponentOf f)) n)
-    || eqb (patternFrom (signOf (fractionOf f) (exponentOf f)) n) (signOf (fractionOf f) (exponentOf f))
+notCanonical (floating f) n = nanIn f (patternFrom (signIn f) n) || eqb (patternFrom (signIn f) n) (signIn f)
 
 -- how many bytes the keys of a shape have
 unfoldable pub bytesIn : List Kind → ℕ

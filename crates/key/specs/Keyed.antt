@@ -5,12 +5,11 @@ use mathlib.Core.Bool.{false, cond}
 use mathlib.Core.List.{List, [], _∷_, map}
 use lib.Dec.{eqb}
 use lib.ListN.{length}
-use lib.Ieee.{Float, Format, binary32, binary64, toBits, ofBits}
-use Rattle.float.specs.Format.{fractionOf, exponentOf, signOf}
+use Rattle.float.specs.Format.{signIn}
 use Rattle.float.specs.Number.{isNone}
 use Rattle.value.specs.declared.Value.{Value}
-use Rattle.value.specs.declared.Value.the-variants.{F32, F64}
-use Rattle.value.specs.Meaning.{Content, natural, integer, real, contentOf, InRange, exactOf}
+use Rattle.value.specs.Kinds.{Form, unsigned, signed, floating, kindOf}
+use Rattle.value.specs.Meaning.{Content, natural, integer, real, contentOf, InRange, exactOf, valueOf}
 use Rattle.record.specs.declared.Field.{Field}
 use Rattle.record.specs.declared.Record.{Record}
 use Rattle.record.specs.declared.Shape.{Shape}
@@ -19,7 +18,7 @@ use Rattle.key.specs.Key.{keyOf}
 
 -- in range and no NaN: the values that have a key
 pub record Keyed (v : Value) : Type 0 where
-  pub in-range : InRange (contentOf v)
+  pub in-range : InRange v
   pub some-number : isNone (exactOf v) ≡ false
 
 -- the value of every field has a key
@@ -29,24 +28,21 @@ pub data AllKeyed : List Field → Type 0 where
 
 -- ---- what reading makes of a value and of a record
 
--- minus zero made plus zero, any other float as it is
-abbrev pub plusZero : Format → Float → Float
-plusZero f x = cond (eqb (toBits f x) (signOf (fractionOf f) (exponentOf f))) (ofBits f 0) x
+-- the sign bit of a float alone is minus zero, and 0 is plus zero; an integer's bits stay as they are
+abbrev pub plusZeroIn : Form → ℕ → ℕ
+plusZeroIn (unsigned k) b = b
+plusZeroIn (signed k) b = b
+plusZeroIn (floating f) b = cond (eqb b (signIn f)) 0 b
 
--- a float beside the word 0, which is never looked at unless the float is a NaN
-abbrev pub floatValue : Format → Float → Value
-floatValue binary32 x = F32 x 0
-floatValue binary64 x = F64 x 0
-
--- an integer stays as it is
-abbrev pub normalIn : Content → Value → Value
-normalIn (natural k n) v = v
-normalIn (integer k z) v = v
-normalIn (real f x w) v = floatValue f (plusZero f x)
+-- the float of its bits with minus zero made plus zero; an integer stays as it is
+abbrev pub madeNormal : Content → Value → Value
+madeNormal (natural k n) v = v
+madeNormal (integer k z) v = v
+madeNormal (real f b) v = valueOf (kindOf v) (plusZeroIn (floating f) b)
 
 -- minus zero made plus zero
 abbrev pub normal : Value → Value
-normal v = normalIn (contentOf v) v
+normal v = madeNormal (contentOf v) v
 
 -- each field made normal
 abbrev pub normalFields : List Field → List Field

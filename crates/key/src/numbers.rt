@@ -3,7 +3,7 @@ ghost use mathlib.Core.Path.{_≡_};
 ghost use Prim.Native.Nat.{_+_, _*_, _%_, _^_, _≤_, _<_};
 ghost use Rattle.value.specs.Kinds.{formOf};
 ghost use Rattle.key.specs.Key.{floatKey, patternFrom, keyNumber};
-ghost use Rattle.key.specs.Inner.{InWeights, weightsFor, absIn, bitsByWeights, nanIn, foreignIn};
+ghost use Rattle.key.specs.Inner.{InWeights, weightsFor, absByWeight, bitsByWeights, nanByWeights, foreignByWeights};
 use crate::Weights;
 use value::Kind;
 use value::Layout;
@@ -80,13 +80,13 @@ pub(crate) fn bits_in(weights: Weights, n: u64) -> u64
 }
 
 fn abs_in(half: u64, bits: u64) -> u64
-    ensures { λ r. ⌜ r ≡ absIn half bits ⌝ }
+    ensures { λ r. ⌜ r ≡ absByWeight half bits ⌝ }
 {
     if half <= bits { bits - half } else { bits }
 }
 
 pub(crate) fn nan_in(weights: Weights, bits: u64) -> bool
-    ensures { λ r. ⌜ r ≡ nanIn weights bits ⌝ }
+    ensures { λ r. ⌜ r ≡ nanByWeights weights bits ⌝ }
 {
     match weights {
         Weights::Unsigned => false,
@@ -97,7 +97,7 @@ pub(crate) fn nan_in(weights: Weights, bits: u64) -> bool
 
 // Bits that no key stands for: those of a NaN and of minus zero.
 pub(crate) fn foreign_in(weights: Weights, bits: u64) -> bool
-    ensures { λ r. ⌜ r ≡ foreignIn weights bits ⌝ }
+    ensures { λ r. ⌜ r ≡ foreignByWeights weights bits ⌝ }
 {
     match weights {
         Weights::Unsigned => false,

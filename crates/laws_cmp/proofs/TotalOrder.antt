@@ -3,25 +3,23 @@ use mathlib.Core.Path.{_≡_, sym, _∙_, ap, subst}
 use mathlib.Core.Logic.{_⊎_, inl, inr}
 use Prim.Native.Nat.{ℕ}
 use lib.Dec.{T}
-use lib.Ieee.{Format}
-use Rattle.float.specs.Format.{fractionOf, exponentOf}
-use Rattle.float.specs.Format as patterns
+use Rattle.float.specs.Format.{Format, fractionOf, exponentOf, positionIn}
 use Rattle.float.specs.Number.{Number, times}
 use Rattle.float.specs.Number as exact
-use Rattle.float.specs.Order.{orderZ, orderOf, patternOf}
+use Rattle.float.specs.Order.{orderZ, orderOf, patternIn}
 use Rattle.float.specs.declared.Order.{Order}
 use Rattle.float.specs.declared.Order.the-variants.{Less, Equal, Greater}
 use Rattle.float.proofs.Turned.{turned, turn-integers}
 use Rattle.float.proofs.Transitive.{integers-less-trans, integers-answer}
 use Rattle.float.proofs.SameNumber.{equal-integers, integer-equal}
-use Rattle.float.proofs.Language.{infinity-positive}
+use Rattle.float.proofs.Formats.{inf-range}
 use Rattle.float.proofs.Place.{position-injective}
 use Rattle.float.proofs.Agreement.{less-position}
 use Rattle.value.specs.declared.Kind.{Kind}
 use Rattle.value.specs.declared.Value.{Value}
 use Rattle.value.specs.Kinds.{kindOf, formOf, isInteger, Form}
 use Rattle.value.specs.Kinds as kinds
-use Rattle.value.specs.Meaning.{real, bitsIn, bitsOf, numberOf, positionIn, positionOf, exactIn, stepOf}
+use Rattle.value.specs.Meaning.{real, bitsIn, bitsOf, numberOf, contentPosition, positionOf, exactIn, stepOf}
 use Rattle.value.specs.Outcome.{gives}
 use Rattle.value.proofs.Forms.{Whole, Floating, whole-or-floating, whole-same}
 use Rattle.cmp.specs.Compare.{compareOf, totalOf}
@@ -63,10 +61,8 @@ one-format a b s t k = same-form (sym (s .form) ∙ ap formOf k ∙ t .form)
 
 -- ---- Equal only for the same bits
 
-float-bits : (f g : Format) (m n : ℕ) → f ≡ g
-    → patterns.positionOf (fractionOf f) (exponentOf f) m ≡ patterns.positionOf (fractionOf g) (exponentOf g) n → m ≡ n
-float-bits f g m n q h =
-    position-injective (fractionOf f) (exponentOf f) m n (h ∙ ap (λ (k : Format). patterns.positionOf (fractionOf k) (exponentOf k) n) (sym q))
+float-bits : (f g : Format) (m n : ℕ) → f ≡ g → positionIn f m ≡ positionIn g n → m ≡ n
+float-bits f g m n q h = position-injective (fractionOf f) (exponentOf f) m n (h ∙ ap (λ (k : Format). positionIn k n) (sym q))
 
 same-position : (a b : Value) → kindOf a ≡ kindOf b → positionOf a ≡ positionOf b → Whole a ⊎ Floating a → Whole b ⊎ Floating b → bitsOf a ≡ bitsOf b
 same-position a b k h (inl s) (inl t) = ap bitsOf (whole-same a b s t k h)
@@ -74,7 +70,7 @@ same-position a b k h (inl s) (inr t) = absurd (t .not-whole (other-whole a b k 
 same-position a b k h (inr s) (inl t) = absurd (s .not-whole (other-whole b a (sym k) t))
 same-position a b k h (inr s) (inr t) =
     ap bitsIn (s .content)
-    ∙ float-bits (s .format) (t .format) _ _ (one-format a b s t k) (sym (ap positionIn (s .content)) ∙ h ∙ ap positionIn (t .content))
+    ∙ float-bits (s .format) (t .format) _ _ (one-format a b s t k) (sym (ap contentPosition (s .content)) ∙ h ∙ ap contentPosition (t .content))
     ∙ sym (ap bitsIn (t .content))
 
 pub same-bits : (a b : Value) → totalOf a b ≡ gives Equal → bitsOf a ≡ bitsOf b
@@ -96,14 +92,14 @@ values-total-order = record {
 
 -- the number of a pattern in the common unit
 abbrev numberFor : Format → ℕ → Number
-numberFor f m = exact.numberOf (times (stepOf f) (patternOf (fractionOf f) (exponentOf f) m))
+numberFor f m = exact.numberOf (times (stepOf f) (patternIn f m))
 
 less-floats : (f g : Format) (m n : ℕ) → f ≡ g → orderOf (numberFor f m) (numberFor g n) ≡ Less
-    → orderZ (patterns.positionOf (fractionOf f) (exponentOf f) m) (patterns.positionOf (fractionOf g) (exponentOf g) n) ≡ Less
+    → orderZ (positionIn f m) (positionIn g n) ≡ Less
 less-floats f g m n q h =
     let k : orderOf (numberFor f m) (numberFor f n) ≡ Less = ap (λ (j : Format). orderOf (numberFor f m) (numberFor j n)) q ∙ h in
-    ap (λ (j : Format). orderZ (patterns.positionOf (fractionOf f) (exponentOf f) m) (patterns.positionOf (fractionOf j) (exponentOf j) n)) (sym q)
-    ∙ less-position (fractionOf f) (exponentOf f) m n (infinity-positive f) (patterns-order f m n ∙ k)
+    ap (λ (j : Format). orderZ (positionIn f m) (positionIn j n)) (sym q)
+    ∙ less-position (fractionOf f) (exponentOf f) m n (inf-range f .0) (patterns-order f m n ∙ k)
 
 less-agrees : (a b : Value) → kindOf a ≡ kindOf b → orderOf (numberOf a) (numberOf b) ≡ Less → Whole a ⊎ Floating a
     → Whole b ⊎ Floating b → orderZ (positionOf a) (positionOf b) ≡ Less
@@ -111,11 +107,11 @@ less-agrees a b k h (inl s) (inl t) = sym (positions-order a b s t) ∙ h
 less-agrees a b k h (inl s) (inr t) = absurd (t .not-whole (other-whole a b k s))
 less-agrees a b k h (inr s) (inl t) = absurd (s .not-whole (other-whole b a (sym k) t))
 less-agrees a b k h (inr s) (inr t) =
-    ap (λ c. orderZ (positionIn c) (positionOf b)) (s .content)
-    ∙ ap (λ c. orderZ (positionIn (real (s .format) (s .number) (s .word))) (positionIn c)) (t .content)
+    ap (λ c. orderZ (contentPosition c) (positionOf b)) (s .content)
+    ∙ ap (λ c. orderZ (contentPosition (real (s .format) (s .pattern))) (contentPosition c)) (t .content)
     ∙ less-floats (s .format) (t .format) _ _ (one-format a b s t k)
     (sym (ap (λ c. orderOf (exact.numberOf (exactIn c)) (numberOf b)) (s .content)
-    ∙ ap (λ c. orderOf (exact.numberOf (exactIn (real (s .format) (s .number) (s .word)))) (exact.numberOf (exactIn c))) (t .content))
+    ∙ ap (λ c. orderOf (exact.numberOf (exactIn (real (s .format) (s .pattern)))) (exact.numberOf (exactIn c))) (t .content))
     ∙ h)
 
 pub less-total : (a b : Value) → compareOf a b ≡ gives Less → totalOf a b ≡ gives Less

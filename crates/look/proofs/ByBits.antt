@@ -10,14 +10,15 @@ use native.Mathlib.Omega.{arith}
 use borrow.Author.Tests.{lt-leb, le-leb, eq-eqb, ne-eqb}
 use lib.Dec.{T, eqb}
 use lib.IntN.{ℤ, pos, negsuc}
-use lib.Ieee.{Float, Format, binary32, binary64}
+use lib.Ieee.{binary32, binary64}
 use types.Run.{OneOf}
 use denote.Enum.Declared.{tagOf}
-use Rattle.float.specs.Format.{fractionOf, exponentOf, signOf, infOf, negativeOf, absOf, infiniteOf, magOf}
+use Rattle.float.specs.Format.{Format, f32, f64, fractionOf, exponentOf, signOf, infOf, negativeOf, absOf, infiniteOf, magOf, infIn, infiniteIn, signIn}
 use Rattle.float.specs.Number as exact
 use Rattle.float.specs.Order.{patternOf}
 use Rattle.float.proofs.Naturals.{lt-or-ge, three-ways}
 use Rattle.float.proofs.Magnitude.{abs-clear, abs-set, mag-rises, mag-zero}
+use Rattle.float.proofs.Formats.{inf-range}
 use Rattle.float.proofs.Comparing.{times-rises, pattern-nan, pattern-infinite, pattern-finite}
 use Rattle.value.specs.declared.Value.{Value}
 use Rattle.value.specs.declared.Value.the-variants.{U8, U16, U32, U64, I8, I16, I32, I64, F32, F64}
@@ -27,7 +28,6 @@ use Rattle.value.proofs.Value.{the-type}
 use Rattle.value.proofs.Units.{unit-pos, step-pos}
 use Rattle.cmp.proofs.KindTests.{keysIn, by-keys}
 use Rattle.convert.specs.Convert.{isInfinite}
-use Rattle.convert.proofs.Patterns.{inf-range}
 use Rattle.row.specs.Row.{any}
 use Rattle.look.specs.Report.{infinite, isMinusZero, minusZero}
 use Rattle.look.specs.ReportTheorem.{infinitiesIn, minusZerosIn, CountedByBits}
@@ -92,15 +92,22 @@ module _ (p e b : ℕ) where
 
 -- ---- a float, and an integer
 
-module _ (f : Format) (x : Float) (w : ℕ) {b : ℕ} (bits : b ≡ floatBits f x w) where
-  pub infinite-float : infiniteOf (fractionOf f) (exponentOf f) b ≡ isInfinite (exactIn (real f x w))
-  infinite-float =
-      ap (infiniteOf (fractionOf f) (exponentOf f)) bits ∙ sym (infinite-pattern (stepOf f) (fractionOf f) (exponentOf f) (floatBits f x w))
+module _ (f : Format) {a b : ℕ} (bits : b ≡ a) where
+  pub infinite-float : infiniteIn f b ≡ isInfinite (exactIn (real f a))
+  infinite-float = ap (infiniteIn f) bits ∙ sym (infinite-pattern (stepOf f) (fractionOf f) (exponentOf f) a)
 
-  pub minus-zero-float : eqb b (signOf (fractionOf f) (exponentOf f)) ≡ isMinusZero (exactIn (real f x w))
+  pub minus-zero-float : eqb b (signIn f) ≡ isMinusZero (exactIn (real f a))
   minus-zero-float =
-      ap (λ (n : ℕ). eqb n (signOf (fractionOf f) (exponentOf f))) bits
-      ∙ sym (minus-zero-pattern (stepOf f) (fractionOf f) (exponentOf f) (floatBits f x w) (step-pos f) (inf-range f .0))
+      ap (λ (n : ℕ). eqb n (signIn f)) bits ∙ sym (minus-zero-pattern (stepOf f) (fractionOf f) (exponentOf f) a (step-pos f) (inf-range f .0))
+
+-- its two infinities and its minus zero, by their bits
+by-format : (f : Format) (b : ℕ)
+    → (isInfinite (exactIn (real f b)) ≡ (eqb b (infIn f) || (eqb b (signIn f + infIn f) || false)))
+    × (isMinusZero (exactIn (real f b)) ≡ (eqb b (signIn f) || false))
+by-format f b = (
+  sym (infinite-float f refl) ∙ infinite-bits (fractionOf f) (exponentOf f) b (inf-range f .1),
+  sym (minus-zero-float f refl) ∙ or-none (eqb b (signIn f)),
+)
 
 -- below 0 the magnitude is above 0
 neither : (z : ℤ) → (isInfinite (exact.times unit (wholeOf z)) ≡ false) × (isMinusZero (exact.times unit (wholeOf z)) ≡ false)
@@ -119,14 +126,8 @@ counted-by-bits (I8 z) = neither z
 counted-by-bits (I16 z) = neither z
 counted-by-bits (I32 z) = neither z
 counted-by-bits (I64 z) = neither z
-counted-by-bits (F32 x w) = (
-  sym (infinite-float binary32 x w refl) ∙ infinite-bits 23 8 (floatBits binary32 x w) (inf-range binary32 .1),
-  sym (minus-zero-float binary32 x w refl) ∙ or-none (eqb (floatBits binary32 x w) (signOf 23 8)),
-)
-counted-by-bits (F64 x w) = (
-  sym (infinite-float binary64 x w refl) ∙ infinite-bits 52 11 (floatBits binary64 x w) (inf-range binary64 .1),
-  sym (minus-zero-float binary64 x w refl) ∙ or-none (eqb (floatBits binary64 x w) (signOf 52 11)),
-)
+counted-by-bits (F32 x w) = by-format f32 (floatBits binary32 x w)
+counted-by-bits (F64 x w) = by-format f64 (floatBits binary64 x w)
 
 -- ---- the arm of the integer kinds: they have no such bits
 

@@ -4,7 +4,7 @@ use mathlib.Core.Bool.{Bool, false, not}
 use mathlib.Core.Path.{_≡_}
 use mathlib.Core.List.{List, [], _∷_}
 use lib.Dec.{eqb}
-use lib.Ieee.{binary32, binary64}
+use Rattle.float.specs.Format.{f32, f64}
 use lib.ListN.{length, getD}
 use Rattle.value.specs.declared.Kind.{Kind}
 use Rattle.value.specs.declared.Value.{Value}
@@ -56,15 +56,15 @@ LooksDecide =
 abbrev pub infinitiesIn : Form → List ℕ
 infinitiesIn (unsigned n) = []
 infinitiesIn (signed n) = []
-infinitiesIn (floating binary32) = 0x7f80_0000 ∷ 0xff80_0000 ∷ []
-infinitiesIn (floating binary64) = 0x7ff0_0000_0000_0000 ∷ 0xfff0_0000_0000_0000 ∷ []
+infinitiesIn (floating f32) = 0x7f80_0000 ∷ 0xff80_0000 ∷ []
+infinitiesIn (floating f64) = 0x7ff0_0000_0000_0000 ∷ 0xfff0_0000_0000_0000 ∷ []
 
 -- the bits of a form's minus zero; an integer has none
 abbrev pub minusZerosIn : Form → List ℕ
 minusZerosIn (unsigned n) = []
 minusZerosIn (signed n) = []
-minusZerosIn (floating binary32) = 0x8000_0000 ∷ []
-minusZerosIn (floating binary64) = 0x8000_0000_0000_0000 ∷ []
+minusZerosIn (floating f32) = 0x8000_0000 ∷ []
+minusZerosIn (floating f64) = 0x8000_0000_0000_0000 ∷ []
 
 -- what is counted as an infinity and as minus zero are just the samples with these bits
 abbrev pub CountedByBits : Type 0

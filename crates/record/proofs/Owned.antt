@@ -14,7 +14,7 @@ use denote.Array.{each}
 use Rattle.value.specs.declared.Kind.{Kind}
 use Rattle.value.specs.declared.Kind.the-variants as kind
 use Rattle.value.specs.declared.Value.the-variants.{U8}
-use Rattle.value.specs.Meaning.{contentOf, InRange}
+use Rattle.value.specs.Meaning.{InRange}
 use Rattle.value.proofs.Ranges.{value-held, Stands, value-stands}
 use Rattle.value.proofs.Kind as kind-type
 use Rattle.record.specs.declared.Field.{Field}
@@ -38,12 +38,12 @@ each-told P R into told d h (x ∷ xs) [] p at = absurd p
 each-told P R into told d h (x ∷ xs) (u ∷ us) p zero = told x (u ∷ []) (p .0)
 each-told P R into told d h (x ∷ xs) (u ∷ us) p (suc at) = each-told P R into told d h xs us (p .1) at
 
-field-held : (f : Field) (vs : List Val) → Is field-type.the-row f vs → InRange (contentOf (f .value))
+field-held : (f : Field) (vs : List Val) → Is field-type.the-row f vs → InRange (f .value)
 field-held f vs p = value-held (f .value) _ (p .1 .1 .0)
 
 -- ---- what is in range can be owned
 
-field-stands : (f : Field) → InRange (contentOf (f .value)) → Stands field-type.the-row f
+field-stands : (f : Field) → InRange (f .value) → Stands field-type.the-row f
 field-stands f h = let v = value-stands (f .value) h in (_, ((_, tt), (refl, (v .1, tt))))
 
 kind-stands : (k : Kind) → Stands kind-type.the-row k
@@ -73,14 +73,14 @@ each-stands R into d (x ∷ xs) h =
 -- ---- records and shapes
 
 pub record-held : (r : Record) → ((vs : List Val) × Is record-type.the-row r vs)
-    ↔ ((length (r .fields) ≡ 12) × ((at : ℕ) → InRange (contentOf (valueAt (r .fields) at))) × (r .count < 2 ^ 64))
+    ↔ ((length (r .fields) ≡ 12) × ((at : ℕ) → InRange (valueAt (r .fields) at)) × (r .count < 2 ^ 64))
 record-held r =
     let row = field-type.the-field .row in
     let into = field-type.the-field .into in
     let none = fieldFor (U8 0) in (
       (λ held.
           let own = held .1 .1 .1 in
-          let each-range = each-told (λ (f : Field). InRange (contentOf (f .value))) row into field-held none (omega arith) in
+          let each-range = each-told (λ (f : Field). InRange (f .value)) row into field-held none (omega arith) in
           (twelve r (own .0 .1 .0 .1), each-range (r .fields) _ (own .0 .1 .1), own .1 .0 .1)),
       λ good.
           let fields = each-stands row into none (r .fields) (λ at. field-stands (getD (r .fields) at none) (good .1 at)) in

@@ -5,12 +5,13 @@ use Prim.Native.Nat.{ℕ, _*_, _^_, _<_}
 use native.Mathlib.Nat.{mul-one, mul-assoc, mul-right-comm, eq-of-mul-eq-mul-right}
 use lib.Dec.{T}
 use lib.Pow.{pow-add}
-use lib.Ieee.{Float, nan, inf, fin, Format, binary32, low, top, up, down, fits, toBits, ofBits}
+use lib.Ieee.{Float, nan, inf, fin, Format, low, top, up, down, fits, toBits, ofBits}
 use lib.Ieee.Exact.{HasValue}
 use lib.Ieee.Fits.{down-pos}
-use Rattle.float.specs.Format.{fractionOf, exponentOf}
+use Rattle.float.specs.Language.{ownOf}
+use Rattle.float.specs.Format.{f32}
 use Rattle.float.specs.Number.{Exact, finite}
-use Rattle.float.specs.Order.{patternOf}
+use Rattle.float.specs.Order.{patternIn}
 use Rattle.float.proofs.Language.{Means, means-nan, means-inf, means-fin, pattern-means, float-means}
 use Rattle.float.proofs.Tests.{clash}
 use Rattle.value.specs.Meaning.{unit, stepOf}
@@ -30,13 +31,13 @@ value-means f s a (means-inf t) h = clash cc
 value-means f s a (means-fin t m e b q) h = let same : b ≡ a = cc in (cc, q ∙ ap (λ (k : ℕ). k * down e) same)
 
 module _ (f : Format) (x : Float) (s : Bool) (a : ℕ) (h : T (fits f x)) where
-  pub value-pattern : HasValue x s a (2 ^ low f) → patternOf (fractionOf f) (exponentOf f) (toBits f x) ≡ finite s a
+  pub value-pattern : HasValue x s a (2 ^ low f) → patternIn (ownOf f) (toBits f x) ≡ finite s a
   value-pattern v = means-value f s a (float-means f x h) v
 
-  pub pattern-value : patternOf (fractionOf f) (exponentOf f) (toBits f x) ≡ finite s a → HasValue x s a (2 ^ low f)
+  pub pattern-value : patternIn (ownOf f) (toBits f x) ≡ finite s a → HasValue x s a (2 ^ low f)
   pattern-value q = value-means f s a (float-means f x h) q
 
-pub bits-value : (f : Format) (b : ℕ) (s : Bool) (a : ℕ) → b < 2 * top f → patternOf (fractionOf f) (exponentOf f) b ≡ finite s a
+pub bits-value : (f : Format) (b : ℕ) (s : Bool) (a : ℕ) → b < 2 * top f → patternIn (ownOf f) b ≡ finite s a
     → HasValue (ofBits f b) s a (2 ^ low f)
 bits-value f b s a h q = value-means f s a (pattern-means f b h) q
 
@@ -53,6 +54,6 @@ over-one (fin t m e) s n k p v = (v .0, mul-one (m * up e) ∙ eq-of-mul-eq-mul-
 
 -- ---- an f32's steps in units of 2^-1074
 
-pub steps-units : (n : ℕ) → n * 2 ^ 149 * stepOf binary32 ≡ n * unit
+pub steps-units : (n : ℕ) → n * 2 ^ 149 * stepOf f32 ≡ n * unit
 unfolding unit stepOf
 steps-units n = mul-assoc n (2 ^ 149) (2 ^ 925) ∙ ap (λ (k : ℕ). n * k) (sym (pow-add 2 149 925))

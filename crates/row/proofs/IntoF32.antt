@@ -10,7 +10,7 @@ use lib.Ieee.Bits.{ofBits-toBits, toBits-lt}
 use lib.Ieee.Exact.{HasValue}
 use lib.Ieee.Fits.{ofInt-fits}
 use lib.Ieee.Back.{round-whole}
-use Rattle.float.specs.Format.{negativeOf, absOf, infiniteOf, nanOf, magOf}
+use Rattle.float.specs.Format.{f32, negativeOf, absOf, infiniteOf, nanOf, magOf}
 use Rattle.float.specs.Number.{Exact, notNumber, infinite, finite, times}
 use Rattle.float.specs.Number as float-number
 use Rattle.float.specs.Order.{patternOf}
@@ -59,17 +59,17 @@ module _ (n : ℕ) (small : n < 2 ^ 16) where
   cast-pattern : patternOf 23 8 bits ≡ finite false (n * 2 ^ 149)
   cast-pattern = value-pattern binary32 (asF32 n) false (n * 2 ^ 149) cast-fits (over-more (asF32 n) false n (2 ^ 149) cast-value)
 
-  pub encoded : encodeOf binary32 (n * unit) ≡ bits
+  pub encoded : encodeOf f32 (n * unit) ≡ bits
   encoded =
       let fields = finite-fields 23 8 bits false (n * 2 ^ 149) cast-pattern in
       let m : magOf 23 bits ≡ n * 2 ^ 149 = ap (magOf 23) (sym (positive-abs 23 8 bits (fields .0))) ∙ fields .1 in
-      ap (encodeOf binary32) (sym (ap (λ (k : ℕ). k * stepOf binary32) m ∙ steps-units n)) ∙ encode-held binary32 bits
+      ap (encodeOf f32) (sym (ap (λ (k : ℕ). k * stepOf f32) m ∙ steps-units n)) ∙ encode-held f32 bits
 
   pub same-number : numberOf (valueOf kind.F32 bits) ≡ numberOf (U16 n)
   unfolding valueOf
   same-number =
-      ap (λ (b : ℕ). float-number.numberOf (times (stepOf binary32) (patternOf 23 8 b))) (value-bits kind.F32 bits (toBits-lt binary32 (asF32 n) cast-fits))
-      ∙ ap (λ (x : Exact). float-number.numberOf (times (stepOf binary32) x)) cast-pattern
+      ap (λ (b : ℕ). float-number.numberOf (times (stepOf f32) (patternOf 23 8 b))) (value-bits kind.F32 bits (toBits-lt binary32 (asF32 n) cast-fits))
+      ∙ ap (λ (x : Exact). float-number.numberOf (times (stepOf f32) x)) cast-pattern
       ∙ ap (λ (k : ℕ). float-number.numberOf (finite false k)) (steps-units n)
 
   pub u16-float : u16ToF32 n ≡ gives (asF32 n)

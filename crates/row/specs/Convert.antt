@@ -7,8 +7,8 @@ use lib.ListN.{length}
 use lib.Ieee.{Float, nan}
 use Rattle.value.specs.declared.Kind.the-variants as kind
 use Rattle.value.specs.declared.Value.{Value}
-use Rattle.value.specs.declared.Value.the-variants.{U8, U16, F32}
-use Rattle.value.specs.Meaning.{Content, natural, integer, real, contentOf, bitsOf}
+use Rattle.value.specs.declared.Value.the-variants.{U8, U16, U32, U64, I8, I16, I32, I64, F32, F64}
+use Rattle.value.specs.Meaning.{bitsOf}
 use Rattle.value.specs.Outcome.{Outcome, mapped, Success, lentAfter}
 use Rattle.value.specs.Rules.{Rule, rule, chain}
 use Rattle.convert.specs.Convert.{convertOf}
@@ -16,15 +16,18 @@ use Rattle.row.specs.Row.{rowAnswer, rowResults}
 
 -- ---- one sample
 
--- the float that a value of a float kind carries
-abbrev pub floatIn : Content → Float
-floatIn (natural k n) = nan
-floatIn (integer k z) = nan
-floatIn (real f x w) = x
-
--- of a value
+-- the float that a value carries; the other kinds carry none
 abbrev pub floatOf : Value → Float
-floatOf v = floatIn (contentOf v)
+floatOf (U8 n) = nan
+floatOf (U16 n) = nan
+floatOf (U32 n) = nan
+floatOf (U64 n) = nan
+floatOf (I8 z) = nan
+floatOf (I16 z) = nan
+floatOf (I32 z) = nan
+floatOf (I64 z) = nan
+floatOf (F32 x w) = x
+floatOf (F64 x w) = x
 
 -- a sample of an unsigned kind is its bits, one of f32 its float
 unfoldable pub u8ToU16 : ℕ → Outcome ℕ

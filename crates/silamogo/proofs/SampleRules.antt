@@ -5,6 +5,7 @@ use mathlib.Core.List.{[], _∷_}
 use Prim.Native.Nat.{ℕ, _^_, _<_}
 use native.Mathlib.Omega.{arith}
 use borrow.Author.Tests.{eq-eqb, ne-eqb, leb-false}
+use Rattle.float.specs.Format.{Format, f32, f64}
 use Rattle.value.specs.declared.Kind.{Kind}
 use Rattle.value.specs.declared.Value.{Value}
 use Rattle.value.specs.Outcome.{Outcome, refuses, refuseIf}
@@ -120,9 +121,9 @@ pub f32-bits : (s : Sample) → tooWide s ≡ false → s .kind ≡ 8 → s .bit
 unfolding tooWide kindFor
 f32-bits s h q = leb-false (2 ^ 32) (s .bits) (rw q at h)
 
-module _ {A : Type 0} (tell : ℕ → ℕ → ℕ → A) (s : Sample) where
-  pub is-f32 : s .kind ≡ 8 → {x : A} → x ≡ tell 23 8 (s .bits) → x ≡ ofFloat tell s
+module _ {A : Type 0} (tell : Format → ℕ → A) (s : Sample) where
+  pub is-f32 : s .kind ≡ 8 → {x : A} → x ≡ tell f32 (s .bits) → x ≡ ofFloat tell s
   is-f32 q e = rw (eq-eqb (s .kind) 8 q) e
 
-  pub is-f64 : (s .kind ≡ 8 → ⊥) → {x : A} → x ≡ tell 52 11 (s .bits) → x ≡ ofFloat tell s
+  pub is-f64 : (s .kind ≡ 8 → ⊥) → {x : A} → x ≡ tell f64 (s .bits) → x ≡ ofFloat tell s
   is-f64 q e = rw (ne-eqb (s .kind) 8 q) e

@@ -6,7 +6,7 @@ use lib.Dec.{eqb}
 use lib.IntN.{ℤ}
 use Rattle.float.specs.declared.Class.{Class}
 use Rattle.float.specs.declared.Order.{Order}
-use Rattle.float.specs.Format.{classOf, positionOf}
+use Rattle.float.specs.Format.{Format, f32, f64, classIn, positionIn}
 use Rattle.value.specs.declared.Value.{Value}
 use Rattle.value.specs.Outcome.{Outcome, gives}
 use Rattle.value.specs.Rules.{Rule, rule, chain}
@@ -63,8 +63,8 @@ abbrev pub notFloat : ℕ → Bool
 notFloat n = not (eqb n 8 || eqb n 9)
 
 -- what a format tells of the bits
-abbrev pub ofFloat : {A : Type 0} → (ℕ → ℕ → ℕ → A) → Sample → A
-ofFloat tell s = cond (eqb (s .kind) 8) (tell 23 8 (s .bits)) (tell 52 11 (s .bits))
+abbrev pub ofFloat : {A : Type 0} → (Format → ℕ → A) → Sample → A
+ofFloat tell s = cond (eqb (s .kind) 8) (tell f32 (s .bits)) (tell f64 (s .bits))
 
 -- 7 for a kind that is no float, and 4
 abbrev pub floatRules : Sample → List Rule
@@ -72,8 +72,8 @@ floatRules s = rule 7 0 (notFloat (s .kind)) ∷ rule 4 0 (anyWide (s ∷ [])) �
 
 -- the class of a pattern
 unfoldable pub classifyOf : Sample → Outcome Class
-classifyOf s = chain (floatRules s) (gives (ofFloat classOf s))
+classifyOf s = chain (floatRules s) (gives (ofFloat classIn s))
 
 -- its position in the total order
 unfoldable pub samplePosition : Sample → Outcome ℤ
-samplePosition s = chain (floatRules s) (gives (ofFloat positionOf s))
+samplePosition s = chain (floatRules s) (gives (ofFloat positionIn s))

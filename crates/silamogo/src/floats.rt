@@ -1,7 +1,7 @@
 // Patterns of the float kinds: their class, their position. RULES.md: The boundary.
 ghost use mathlib.Core.Path.{_≡_};
 ghost use mathlib.Core.Bool.{false};
-ghost use Rattle.float.specs.Format.{classOf, positionOf};
+ghost use Rattle.float.specs.Format.{classIn, positionIn};
 ghost use Rattle.silamogo.specs.Answer.{classedOf, positionedOf};
 ghost use Rattle.silamogo.specs.Samples.{tooWide};
 ghost use Rattle.silamogo.specs.Single.{ofFloat, classifyOf, samplePosition};
@@ -14,7 +14,7 @@ use float::Class;
 
 fn class_of(s: Sample) -> Class
     requires { ⌜ tooWide s ≡ false ⌝ }
-    ensures { λ r. ⌜ r ≡ ofFloat classOf s ⌝ }
+    ensures { λ r. ⌜ r ≡ ofFloat classIn s ⌝ }
 {
     if s.kind == 8 {
         float::class_f32(s.bits as u32)
@@ -25,7 +25,7 @@ fn class_of(s: Sample) -> Class
 
 fn position_of(s: Sample) -> i64
     requires { ⌜ tooWide s ≡ false ⌝ }
-    ensures { λ r. ⌜ r ≡ ofFloat positionOf s ⌝ }
+    ensures { λ r. ⌜ r ≡ ofFloat positionIn s ⌝ }
 {
     if s.kind == 8 {
         float::position_f32(s.bits as u32) as i64

@@ -4,7 +4,7 @@ use mathlib.Core.Bool.{Bool, cond}
 use mathlib.Core.List.{List, [], _∷_}
 use lib.IntN.{ℤ, pos, negsuc}
 use lib.Signed.{ltZ}
-use Rattle.float.specs.Format.{zeroOf, subnormalOf, normalOf, infiniteOf, nanOf, positionOf}
+use Rattle.float.specs.Format.{f32, zeroIn, subnormalIn, normalIn, infiniteIn, nanIn, positionIn}
 use Rattle.row.specs.Row.{howMany}
 use Rattle.strip.specs.declared.Extreme.{Extreme}
 use Rattle.strip.specs.declared.Extreme.the-variants.{Is, Nothing}
@@ -19,7 +19,7 @@ bottomEnd = negsuc 2147483647
 
 -- the position of a sample; a NaN counts as an end
 abbrev pub placeOf : ℤ → ℕ → ℤ
-placeOf end b = cond (nanOf 23 8 b) end (positionOf 23 8 b)
+placeOf end b = cond (nanIn f32 b) end (positionIn f32 b)
 
 -- the position that passes a test against all others, from one on
 unfoldable pub farthestFrom : (ℤ → ℤ → Bool) → ℤ → ℤ → List ℕ → ℤ
@@ -38,18 +38,18 @@ bitsAt (negsuc x) = 2147483648 + x
 -- what samples have: how many there are of each class, and the farthest positions from two on
 unfoldable pub tallyOf : ℤ → ℤ → List ℕ → Tally
 tallyOf low high bs = record {
-  zero = howMany (zeroOf 23 8) bs;
-  subnormal = howMany (subnormalOf 23 8) bs;
-  normal = howMany (normalOf 23 8) bs;
-  infinite = howMany (infiniteOf 23 8) bs;
-  nan = howMany (nanOf 23 8) bs;
+  zero = howMany (zeroIn f32) bs;
+  subnormal = howMany (subnormalIn f32) bs;
+  normal = howMany (normalIn f32) bs;
+  infinite = howMany (infiniteIn f32) bs;
+  nan = howMany (nanIn f32) bs;
   low = farthestFrom ltZ topEnd low bs;
   high = farthestFrom gtZ bottomEnd high bs;
 }
 
 -- the position of what was found before, or an end
 abbrev pub startAt : ℤ → Extreme → ℤ
-startAt end (Is a) = positionOf 23 8 a
+startAt end (Is a) = positionIn f32 a
 startAt end Nothing = end
 
 -- the sample at the position that was reached, if there is one

@@ -5,7 +5,7 @@ use mathlib.Core.List.{List, [], _∷_}
 use lib.Dec.{leb}
 use lib.Signed.{ltZ}
 use lib.ListN.{length}
-use Rattle.float.specs.Format.{zeroOf, subnormalOf, normalOf, infiniteOf, nanOf, positionOf}
+use Rattle.float.specs.Format.{f32, zeroIn, subnormalIn, normalIn, infiniteIn, nanIn, positionIn}
 use Rattle.row.specs.Row.{howMany}
 use Rattle.sample.specs.Samples.{numbersIn, counted}
 use Rattle.strip.specs.declared.Extreme.{Extreme}
@@ -16,15 +16,15 @@ use Rattle.strip.specs.declared.Sheet.{Sheet}
 
 -- b is no NaN, and comes before a in total order
 abbrev pub isBefore : ℕ → ℕ → Bool
-isBefore b a = not (nanOf 23 8 b) && ltZ (positionOf 23 8 b) (positionOf 23 8 a)
+isBefore b a = not (nanIn f32 b) && ltZ (positionIn f32 b) (positionIn f32 a)
 
 -- b is no NaN, and comes behind a in total order
 abbrev pub isBehind : ℕ → ℕ → Bool
-isBehind b a = not (nanOf 23 8 b) && ltZ (positionOf 23 8 a) (positionOf 23 8 b)
+isBehind b a = not (nanIn f32 b) && ltZ (positionIn f32 a) (positionIn f32 b)
 
 -- what was found so far, or a sample that passes a test against it; a NaN is never found
 abbrev pub fartherOf : (ℕ → ℕ → Bool) → Extreme → ℕ → Extreme
-fartherOf test Nothing b = cond (nanOf 23 8 b) Nothing (Is b)
+fartherOf test Nothing b = cond (nanIn f32 b) Nothing (Is b)
 fartherOf test (Is a) b = cond (test b a) (Is b) (Is a)
 
 -- the same of samples, one after the other
@@ -56,11 +56,11 @@ sheetAfter s src =
     let bs = takenIn (s .samples) src in
     record {
       samples = s .samples + length bs;
-      zero = counted (s .zero + howMany (zeroOf 23 8) bs);
-      subnormal = counted (s .subnormal + howMany (subnormalOf 23 8) bs);
-      normal = counted (s .normal + howMany (normalOf 23 8) bs);
-      infinite = counted (s .infinite + howMany (infiniteOf 23 8) bs);
-      nan = counted (s .nan + howMany (nanOf 23 8) bs);
+      zero = counted (s .zero + howMany (zeroIn f32) bs);
+      subnormal = counted (s .subnormal + howMany (subnormalIn f32) bs);
+      normal = counted (s .normal + howMany (normalIn f32) bs);
+      infinite = counted (s .infinite + howMany (infiniteIn f32) bs);
+      nan = counted (s .nan + howMany (nanIn f32) bs);
       lowest = extremeOf isBefore (s .lowest) bs;
       highest = extremeOf isBehind (s .highest) bs;
       tail = tailOf (s .samples + length bs) src;

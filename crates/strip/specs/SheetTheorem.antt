@@ -6,7 +6,7 @@ use mathlib.Core.Logic.{_↔_}
 use mathlib.Core.List.{List, [], _∷_}
 use lib.ListN.{length, getD}
 use Rattle.float.specs.declared.Class.the-variants.{Zero, Subnormal, Normal, Infinite, Nan}
-use Rattle.float.specs.Format.{zeroOf, subnormalOf, normalOf, infiniteOf, nanOf, classOf}
+use Rattle.float.specs.Format.{f32, zeroIn, subnormalIn, normalIn, infiniteIn, nanIn, classIn}
 use Rattle.value.specs.declared.Kind.the-variants.{F32}
 use Rattle.row.specs.Row.{any, howMany}
 use Rattle.sample.specs.Samples.{numbersIn, joined, WholeBlocks}
@@ -30,17 +30,17 @@ stripOf bytes = numbersIn 4 (min (length bytes / 4) most) bytes
 
 -- what is found is no NaN, it is one of the samples, and none passes the test against it; nothing is found where all are NaN
 abbrev pub Farthest : (ℕ → ℕ → Bool) → List ℕ → Extreme → Type 0
-Farthest test bs Nothing = any (λ b. not (nanOf 23 8 b)) bs ≡ false
-Farthest test bs (Is a) = (nanOf 23 8 a ≡ false) × ((i : ℕ) × (i < length bs) × (getD bs i a ≡ a)) × (any (λ b. test b a) bs ≡ false)
+Farthest test bs Nothing = any (λ b. not (nanIn f32 b)) bs ≡ false
+Farthest test bs (Is a) = (nanIn f32 a ≡ false) × ((i : ℕ) × (i < length bs) × (getD bs i a ≡ a)) × (any (λ b. test b a) bs ≡ false)
 
 -- what is told of a whole input
 pub record SheetTells (bytes : List ℕ) (s : Sheet) : Type 0 where
   pub samples : s .samples ≡ length (stripOf bytes)
-  pub zero : s .zero ≡ howMany (zeroOf 23 8) (stripOf bytes)
-  pub subnormal : s .subnormal ≡ howMany (subnormalOf 23 8) (stripOf bytes)
-  pub normal : s .normal ≡ howMany (normalOf 23 8) (stripOf bytes)
-  pub infinite : s .infinite ≡ howMany (infiniteOf 23 8) (stripOf bytes)
-  pub nan : s .nan ≡ howMany (nanOf 23 8) (stripOf bytes)
+  pub zero : s .zero ≡ howMany (zeroIn f32) (stripOf bytes)
+  pub subnormal : s .subnormal ≡ howMany (subnormalIn f32) (stripOf bytes)
+  pub normal : s .normal ≡ howMany (normalIn f32) (stripOf bytes)
+  pub infinite : s .infinite ≡ howMany (infiniteIn f32) (stripOf bytes)
+  pub nan : s .nan ≡ howMany (nanIn f32) (stripOf bytes)
   -- the five classes sum to the samples
   pub sum : s .zero + s .subnormal + s .normal + s .infinite + s .nan ≡ s .samples
   pub lowest : Farthest isBefore (stripOf bytes) (s .lowest)
@@ -56,8 +56,8 @@ SheetsTell = (bs : List (List ℕ)) → WholeBlocks F32 bs → SheetTells (joine
 
 -- the five tests that are counted are the five classes
 pub record Classes : Type 0 where
-  pub zero : (b : ℕ) → (zeroOf 23 8 b ≡ true) ↔ (classOf 23 8 b ≡ Zero)
-  pub subnormal : (b : ℕ) → (subnormalOf 23 8 b ≡ true) ↔ (classOf 23 8 b ≡ Subnormal)
-  pub normal : (b : ℕ) → (normalOf 23 8 b ≡ true) ↔ (classOf 23 8 b ≡ Normal)
-  pub infinite : (b : ℕ) → (infiniteOf 23 8 b ≡ true) ↔ (classOf 23 8 b ≡ Infinite)
-  pub nan : (b : ℕ) → (nanOf 23 8 b ≡ true) ↔ (classOf 23 8 b ≡ Nan)
+  pub zero : (b : ℕ) → (zeroIn f32 b ≡ true) ↔ (classIn f32 b ≡ Zero)
+  pub subnormal : (b : ℕ) → (subnormalIn f32 b ≡ true) ↔ (classIn f32 b ≡ Subnormal)
+  pub normal : (b : ℕ) → (normalIn f32 b ≡ true) ↔ (classIn f32 b ≡ Normal)
+  pub infinite : (b : ℕ) → (infiniteIn f32 b ≡ true) ↔ (classIn f32 b ≡ Infinite)
+  pub nan : (b : ℕ) → (nanIn f32 b ≡ true) ↔ (classIn f32 b ≡ Nan)

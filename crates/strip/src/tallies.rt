@@ -5,7 +5,7 @@ ghost use Prim.Native.Nat.{_+_, _-_, _*_, _/_, _%_, _≤_, _<_, min};
 ghost use lib.Dec.{leb};
 ghost use lib.Signed.{ltZ};
 ghost use lib.ListN.{length, take, drop};
-ghost use Rattle.float.specs.Format.{zeroOf, subnormalOf, normalOf};
+ghost use Rattle.float.specs.Format.{f32, zeroIn, subnormalIn, normalIn};
 ghost use Rattle.bytewise.specs.Numbers.{fromLittleEndian};
 ghost use Rattle.sample.specs.Samples.{numbersIn};
 ghost use Rattle.strip.specs.Sheet.{most, sheetAfter};
@@ -47,20 +47,20 @@ fn word_at(src: &[u8], i: usize) -> u32
 }
 
 fn is_zero(bits: u32) -> bool
-    ensures { λ r. ⌜ r ≡ zeroOf 23 8 bits ⌝ }
+    ensures { λ r. ⌜ r ≡ zeroIn f32 bits ⌝ }
 {
     abs_f32(bits) == 0
 }
 
 fn is_subnormal(bits: u32) -> bool
-    ensures { λ r. ⌜ r ≡ subnormalOf 23 8 bits ⌝ }
+    ensures { λ r. ⌜ r ≡ subnormalIn f32 bits ⌝ }
 {
     let x = abs_f32(bits);
     (0 < x) & (x < 0x0080_0000)
 }
 
 fn is_normal(bits: u32) -> bool
-    ensures { λ r. ⌜ r ≡ normalOf 23 8 bits ⌝ }
+    ensures { λ r. ⌜ r ≡ normalIn f32 bits ⌝ }
 {
     let x = abs_f32(bits);
     (0x0080_0000 <= x) & (x < 0x7f80_0000)

@@ -6,7 +6,9 @@ use lib.Dec.{T}
 use lib.Ieee.{Float, nan, inf, fin, Format, binary32, binary64, isNan, toBits, ofBits, ofFields, odd, nanBits, top, ne, div}
 use lib.Ieee.Bits.{toBits-ofBits, nanBits-is}
 use lib.Ieee.Compare.{differs-from-itself, nan-differs}
-use Rattle.float.specs.Format.{fractionOf, exponentOf, infOf, nanOf}
+use Rattle.float.specs.Format as format
+use Rattle.float.specs.Format.{fractionOf, infIn, nanIn}
+use Rattle.float.specs.Language.{ownOf}
 use Rattle.float.proofs.Language.{nan-pattern}
 use Rattle.value.specs.Meaning.{nanWord, floatBits, wordFor}
 
@@ -36,15 +38,15 @@ module _ (f : Format) (x : Float) (w : ℕ) where
   unfolding floatBits
   bits-number h = simp (is-false (isNan x) h)
 
-  pub bits-nan : isNan x ≡ true → nanWord (fractionOf f) (exponentOf f) w ≡ floatBits f x w
+  pub bits-nan : isNan x ≡ true → nanWord (ownOf f) w ≡ floatBits f x w
   unfolding floatBits
   bits-nan h = simp h
 
-pub word-nan : (p e w : ℕ) → true ≡ nanOf p e w → w ≡ nanWord p e w
-word-nan p e w h = simp (sym h)
+pub word-nan : (f : format.Format) (w : ℕ) → true ≡ nanIn f w → w ≡ nanWord f w
+word-nan f w h = simp (sym h)
 
-pub word-other : (p e w : ℕ) → false ≡ nanOf p e w → infOf p e + 2 ^ (p - 1) ≡ nanWord p e w
-word-other p e w h = simp (sym h)
+pub word-other : (f : format.Format) (w : ℕ) → false ≡ nanIn f w → infIn f + 2 ^ (fractionOf f - 1) ≡ nanWord f w
+word-other f w h = simp (sym h)
 
 -- ---- the float of a pattern
 
@@ -59,35 +61,35 @@ unfolding div ofBits ofFields odd
 zero-over-zero binary32 = refl
 zero-over-zero binary64 = refl
 
-pub word-beside : (p e b : ℕ) → true ≡ nanOf p e b → b ≡ wordFor p e b
-word-beside p e b h = simp (sym h)
+pub word-beside : (f : format.Format) (b : ℕ) → true ≡ nanIn f b → b ≡ wordFor f b
+word-beside f b h = simp (sym h)
 
-pub word-none : (p e b : ℕ) → false ≡ nanOf p e b → 0 ≡ wordFor p e b
-word-none p e b h = simp (sym h)
+pub word-none : (f : format.Format) (b : ℕ) → false ≡ nanIn f b → 0 ≡ wordFor f b
+word-none f b h = simp (sym h)
 
 module _ (f : Format) (b : ℕ) (small : b < 2 * top f) where
-  nan-test : isNan (ofBits f b) ≡ nanOf (fractionOf f) (exponentOf f) b
+  nan-test : isNan (ofBits f b) ≡ nanIn (ownOf f) b
   nan-test = nan-pattern f b small
 
-  pub pattern-number : false ≡ nanOf (fractionOf f) (exponentOf f) b → T (not (isNan (ofBits f b)))
+  pub pattern-number : false ≡ nanIn (ownOf f) b → T (not (isNan (ofBits f b)))
   pattern-number h = subst (λ (t : Bool). T (not t)) (h ∙ sym nan-test) tt
 
-  pub from-bits : false ≡ nanOf (fractionOf f) (exponentOf f) b → T (not (nanBits f b))
+  pub from-bits : false ≡ nanIn (ownOf f) b → T (not (nanBits f b))
   from-bits h = subst (λ (t : Bool). T (not t)) (sym (nanBits-is f b)) (pattern-number h)
 
   -- zero over zero is the NaN
-  pub made-nan : true ≡ nanOf (fractionOf f) (exponentOf f) b → div f (ofBits f 0) (ofBits f 0) ≡ ofBits f b
+  pub made-nan : true ≡ nanIn (ownOf f) b → div f (ofBits f 0) (ofBits f 0) ≡ ofBits f b
   made-nan h = zero-over-zero f ∙ sym (only-nan (ofBits f b) (nan-test ∙ sym h))
 
   -- every pattern is the bits of the float made from it, a NaN's included
-  pub bits-pattern : floatBits f (ofBits f b) (wordFor (fractionOf f) (exponentOf f) b) ≡ b
-  bits-pattern = go (nanOf (fractionOf f) (exponentOf f) b) refl
+  pub bits-pattern : floatBits f (ofBits f b) (wordFor (ownOf f) b) ≡ b
+  bits-pattern = go (nanIn (ownOf f) b) refl
     where
-      go : (t : Bool) → t ≡ nanOf (fractionOf f) (exponentOf f) b → floatBits f (ofBits f b) (wordFor (fractionOf f) (exponentOf f) b) ≡ b
+      go : (t : Bool) → t ≡ nanIn (ownOf f) b → floatBits f (ofBits f b) (wordFor (ownOf f) b) ≡ b
       go true h =
           ap (floatBits f (ofBits f b)) (simp (sym h))
           ∙ sym (bits-nan f (ofBits f b) b (nan-test ∙ sym h))
-          ∙ sym (word-nan (fractionOf f) (exponentOf f) b h)
+          ∙ sym (word-nan (ownOf f) b h)
       go false h =
           sym (bits-number f (ofBits f b) _ (pattern-number h))
           ∙ toBits-ofBits f b small (pattern-number h)

@@ -4,7 +4,7 @@ use mathlib.Core.Logic.{_⊎_, inl, inr}
 use Prim.Native.Nat.{ℕ}
 use lib.Dec.{T}
 use lib.IntN.{ℤ, natAbs}
-use lib.Ieee.{Float, Format, binary32, binary64}
+use Rattle.float.specs.Format.{Format, f32, f64}
 use Rattle.value.specs.declared.Kind.{Kind}
 use Rattle.value.specs.declared.Kind.the-variants as kind
 use Rattle.value.specs.declared.Value.{Value}
@@ -18,9 +18,8 @@ Whole v = T (isInteger (formOf (kindOf v)))
 
 pub record Floating (v : Value) : Type 0 where
   pub format : Format
-  pub number : Float
-  pub word : ℕ
-  pub content : contentOf v ≡ real format number word
+  pub pattern : ℕ
+  pub content : contentOf v ≡ real format pattern
   pub form : formOf (kindOf v) ≡ floating format
   pub not-whole : Whole v → ⊥
 
@@ -33,8 +32,8 @@ whole-or-floating (I8 z) = inl tt
 whole-or-floating (I16 z) = inl tt
 whole-or-floating (I32 z) = inl tt
 whole-or-floating (I64 z) = inl tt
-whole-or-floating (F32 x w) = inr (record { format = binary32; number = x; word = w; content = refl; form = refl; not-whole = λ t. t })
-whole-or-floating (F64 x w) = inr (record { format = binary64; number = x; word = w; content = refl; form = refl; not-whole = λ t. t })
+whole-or-floating (F32 x w) = inr (record { format = f32; pattern = _; content = refl; form = refl; not-whole = λ t. t })
+whole-or-floating (F64 x w) = inr (record { format = f64; pattern = _; content = refl; form = refl; not-whole = λ t. t })
 
 -- the value of an integer kind with a number
 remade : Kind → ℤ → Value

@@ -2,8 +2,7 @@
 use Prim.Native.Nat.{ℕ, zero, suc, _+_, _/_}
 use mathlib.Core.Bool.{Bool, true, false}
 use mathlib.Core.List.{List, [], _∷_}
-use lib.Ieee.{Format, binary32, binary64}
-use Rattle.float.specs.Format.{fractionOf, exponentOf}
+use Rattle.float.specs.Format.{Format, f32, f64, fractionOf, exponentOf}
 use Rattle.value.specs.declared.Kind.{Kind}
 use Rattle.value.specs.declared.Kind.the-variants as kind
 use Rattle.value.specs.declared.Value.{Value}
@@ -68,8 +67,8 @@ formOf kind.I8 = signed 8
 formOf kind.I16 = signed 16
 formOf kind.I32 = signed 32
 formOf kind.I64 = signed 64
-formOf kind.F32 = floating binary32
-formOf kind.F64 = floating binary64
+formOf kind.F32 = floating f32
+formOf kind.F64 = floating f64
 
 -- the form of an integer kind
 abbrev pub isInteger : Form → Bool

@@ -4,25 +4,37 @@ use Prim.Native.Nat.{ℕ, suc, _+_, _-_, _*_, _%_, _^_, _<_}
 use mathlib.Core.Bool.{false, true, cond}
 use lib.Dec.{T, ltb}
 use lib.IntN.{ℤ, pos, negsuc}
-use lib.Ieee.{Float, Format, binary32, binary64, isNan, fits, toBits, ofBits}
-use Rattle.float.specs.Format.{fractionOf, exponentOf, infOf, nanOf}
-use Rattle.float.specs.Format as patterns
+use lib.Ieee.{Float, isNan, fits, toBits, ofBits}
+use lib.Ieee as language
+use Rattle.float.specs.Format.{Format, f32, f64, fractionOf, infIn, nanIn, positionIn}
+use Rattle.float.specs.Language.{ownOf}
 use Rattle.float.specs.Number.{Exact, finite, times, Number}
 use Rattle.float.specs.Number as float-number
-use Rattle.float.specs.Order.{patternOf}
+use Rattle.float.specs.Order.{patternIn}
 use Rattle.value.specs.declared.Kind.{Kind}
 use Rattle.value.specs.declared.Kind.the-variants as kind
 use Rattle.value.specs.declared.Value.{Value}
 use Rattle.value.specs.declared.Value.the-variants.{U8, U16, U32, U64, I8, I16, I32, I64, F32, F64}
-use Rattle.value.specs.Kinds.{floating, widthIn}
 
--- a number of some bits, unsigned or signed, or a float of a format with the word beside it
+-- ---- the pattern of a float that the language holds as a float
+
+-- the word beside a NaN when it is a NaN's pattern, else the quiet NaN: 7fc00000 for f32
+abbrev pub nanWord : Format → ℕ → ℕ
+nanWord f w = cond (nanIn f w) w (infIn f + 2 ^ (fractionOf f - 1))
+
+-- the word is looked at only when the float is a NaN
+unfoldable pub floatBits : language.Format → Float → ℕ → ℕ
+floatBits f x w = cond (isNan x) (nanWord (ownOf f) w) (toBits f x)
+
+-- ---- what a value holds
+
+-- a number of some bits, unsigned or signed, or a pattern of a float format
 pub data Content : Type 0 where
   natural : ℕ → ℕ → Content
   integer : ℕ → ℤ → Content
-  real : Format → Float → ℕ → Content
+  real : Format → ℕ → Content
 
--- what a value holds
+-- of each kind
 abbrev pub contentOf : Value → Content
 contentOf (U8 n) = natural 8 n
 contentOf (U16 n) = natural 16 n
@@ -32,44 +44,43 @@ contentOf (I8 z) = integer 8 z
 contentOf (I16 z) = integer 16 z
 contentOf (I32 z) = integer 32 z
 contentOf (I64 z) = integer 64 z
-contentOf (F32 x w) = real binary32 x w
-contentOf (F64 x w) = real binary64 x w
-
--- ---- bits
+contentOf (F32 x w) = real f32 (floatBits language.binary32 x w)
+contentOf (F64 x w) = real f64 (floatBits language.binary64 x w)
 
 -- -half ≤ z < half: the range of a signed kind
 abbrev pub fitsSigned : ℕ → ℤ → Type 0
 fitsSigned half (pos n) = n < half
 fitsSigned half (negsuc n) = n < half
 
+-- in the range of its kind, as every value that a program holds; the word beside a float has the float's width
+abbrev pub InRange : Value → Type 0
+InRange (U8 n) = n < 2 ^ 8
+InRange (U16 n) = n < 2 ^ 16
+InRange (U32 n) = n < 2 ^ 32
+InRange (U64 n) = n < 2 ^ 64
+InRange (I8 z) = fitsSigned (2 ^ 7) z
+InRange (I16 z) = fitsSigned (2 ^ 15) z
+InRange (I32 z) = fitsSigned (2 ^ 31) z
+InRange (I64 z) = fitsSigned (2 ^ 63) z
+InRange (F32 x w) = T (fits language.binary32 x) × (w < 2 ^ 32)
+InRange (F64 x w) = T (fits language.binary64 x) × (w < 2 ^ 64)
+
+-- ---- bits
+
 -- z in two's complement: minus one is all ones
 abbrev pub twosOf : ℕ → ℤ → ℕ
 twosOf ones (pos n) = n
 twosOf ones (negsuc n) = ones - n
 
--- the word beside a NaN when it is a NaN's pattern, else the quiet NaN: 7fc00000 for f32
-abbrev pub nanWord : ℕ → ℕ → ℕ → ℕ
-nanWord p e w = cond (nanOf p e w) w (infOf p e + 2 ^ (p - 1))
-
--- the word is looked at only when the float is a NaN
-unfoldable pub floatBits : Format → Float → ℕ → ℕ
-floatBits f x w = cond (isNan x) (nanWord (fractionOf f) (exponentOf f) w) (toBits f x)
-
 -- the bits of what it holds
 abbrev pub bitsIn : Content → ℕ
 bitsIn (natural k n) = n
 bitsIn (integer k z) = twosOf (2 ^ k - 1) z
-bitsIn (real f x w) = floatBits f x w
+bitsIn (real f b) = b
 
 -- the bits of a value
 abbrev pub bitsOf : Value → ℕ
 bitsOf v = bitsIn (contentOf v)
-
--- in the range of its kind, as every value that a program holds; the word beside a float has the float's width
-abbrev pub InRange : Content → Type 0
-InRange (natural k n) = n < 2 ^ k
-InRange (integer k z) = fitsSigned (2 ^ (k - 1)) z
-InRange (real f x w) = T (fits f x) × (w < 2 ^ widthIn (floating f))
 
 -- ---- the one meaning: no number, an infinity, or a sign and a magnitude in units of 2^-1074
 
@@ -84,14 +95,14 @@ unit = 2 ^ 1074
 
 -- a step of f32 is 2^-149, one of f64 is the unit
 unfoldable pub stepOf : Format → ℕ
-stepOf binary32 = 2 ^ 925
-stepOf binary64 = 1
+stepOf f32 = 2 ^ 925
+stepOf f64 = 1
 
 -- what a content stands for
 abbrev pub exactIn : Content → Exact
 exactIn (natural k n) = times unit (wholeOf (pos n))
 exactIn (integer k z) = times unit (wholeOf z)
-exactIn (real f x w) = times (stepOf f) (patternOf (fractionOf f) (exponentOf f) (floatBits f x w))
+exactIn (real f b) = times (stepOf f) (patternIn f b)
 
 -- what a value stands for
 abbrev pub exactOf : Value → Exact
@@ -104,14 +115,14 @@ numberOf v = float-number.numberOf (exactOf v)
 -- ---- the place in the total order: an integer's number, a float's position
 
 -- of what it holds
-abbrev pub positionIn : Content → ℤ
-positionIn (natural k n) = pos n
-positionIn (integer k z) = z
-positionIn (real f x w) = patterns.positionOf (fractionOf f) (exponentOf f) (floatBits f x w)
+abbrev pub contentPosition : Content → ℤ
+contentPosition (natural k n) = pos n
+contentPosition (integer k z) = z
+contentPosition (real f b) = positionIn f b
 
 -- of a value
 abbrev pub positionOf : Value → ℤ
-positionOf v = positionIn (contentOf v)
+positionOf v = contentPosition (contentOf v)
 
 -- ---- the value of a bit pattern
 
@@ -120,16 +131,16 @@ abbrev pub fromTwos : ℕ → ℕ → ℤ
 fromTwos half n = cond (ltb n half) (pos n) (negsuc (2 * half - 1 - n))
 
 -- the pattern stands beside a NaN, and 0 beside any other float
-abbrev pub wordFor : ℕ → ℕ → ℕ → ℕ
-wordFor p e b = cond (nanOf p e b) b 0
+abbrev pub wordFor : Format → ℕ → ℕ
+wordFor f b = cond (nanIn f b) b 0
 
 -- the value of an f32 pattern
 abbrev pub f32Value : ℕ → Value
-f32Value b = F32 (ofBits binary32 b) (wordFor 23 8 b)
+f32Value b = F32 (ofBits language.binary32 b) (wordFor f32 b)
 
 -- and of an f64 pattern
 abbrev pub f64Value : ℕ → Value
-f64Value b = F64 (ofBits binary64 b) (wordFor 52 11 b)
+f64Value b = F64 (ofBits language.binary64 b) (wordFor f64 b)
 
 -- the value of a kind with these bits; bits above the kind's width are not looked at
 unfoldable pub valueOf : Kind → ℕ → Value

@@ -3,8 +3,8 @@ use mathlib.Core.Path.{refl, _∙_}
 use borrow.Author.Needs.{needs}
 use lib.Dec.{lit≤}
 use lib.IntN.{pos}
-use lib.Ieee.{binary32, binary64}
 use mir.Syntax.{w8, w16, w32}
+use Rattle.float.specs.Format.{f32, f64}
 use Rattle.cmp.proofs.Numbers.{wide-order, narrow-order, narrow-fits}
 use Rattle.cmp.proofs.Answers.{compare-refused, compare-integers, compare-floats}
 use Rattle.cmp.proofs.comparison.compare.Statement.{statement}
@@ -98,7 +98,7 @@ returns-16 c = c .kinds-differ8 .ensures ∙ compare-refused _ (c .before .befor
 returns-17 : tie.Need-returns-17
 returns-17 c =
     compare-floats (c .before .before .before .before .before .before .before .a9 .given .1)
-    (c .before .before .before .before .b9 .given .1) refl binary32 _ _ refl refl
+    (c .before .before .before .before .b9 .given .1) refl f32 _ _ refl refl
     (c .compare-f32 .ensures) (c .before .before .bits-f32 .ensures) (c .before .bits-f322 .ensures)
 
 returns-18 : tie.Need-returns-18
@@ -107,7 +107,7 @@ returns-18 c = c .kinds-differ9 .ensures ∙ compare-refused _ (c .before .befor
 returns-19 : tie.Need-returns-19
 returns-19 c =
     compare-floats (c .before .before .before .before .before .before .before .a10 .given .1)
-    (c .before .before .before .before .b10 .given .1) refl binary64 _ _ refl refl
+    (c .before .before .before .before .b10 .given .1) refl f64 _ _ refl refl
     (c .compare-f64 .ensures) (c .before .before .bits-f64 .ensures) (c .before .bits-f642 .ensures)
 
 returns-20 : tie.Need-returns-20

@@ -3,10 +3,10 @@ use mathlib.Core.Path.{sym, _∙_, ap}
 use borrow.Author.Needs.{needs}
 use lib.Dec.{lit≤}
 use lib.IntN.{ℤ}
-use lib.Ieee.{binary32, binary64}
 use mir.Syntax.{w8, w16, w32, w64}
 use mir.Val.{SFits}
 use mir.ValLaws.{toZ-ofZ}
+use Rattle.float.specs.Format.{f32, f64}
 use Rattle.float.specs.Number.{times}
 use Rattle.value.specs.Meaning.{wholeOf, unit, stepOf, exactOf}
 use Rattle.value.proofs.TwosComplement.{wider, recast, recast-back}
@@ -67,8 +67,8 @@ returns-9 c =
     let bits = sign .before in
     let v = bits .before .before .v9 .given in
     c .float-parts .ensures
-    ∙ ap (times (stepOf binary32))
-    (taken-pattern binary32 (v .0 .0) (v .0 .1 .0) (bits .bits-f32 .ensures) (sign .is-sign-negative-f32 .ensures) (abs .abs-f32 .ensures))
+    ∙ ap (times (stepOf f32))
+    (taken-pattern f32 (bits .bits-f32 .ensures) (sign .is-sign-negative-f32 .ensures) (abs .abs-f32 .ensures))
     ∙ sym (ap exactOf (v .1))
 
 returns-10 : tie.Need-returns-10
@@ -79,8 +79,8 @@ returns-10 c =
     let bits = sign .before in
     let v = bits .before .before .v10 .given in
     c .float-parts2 .ensures
-    ∙ ap (times (stepOf binary64))
-    (taken-pattern binary64 (v .0 .0) (v .0 .1 .0) (bits .bits-f64 .ensures) (sign .is-sign-negative-f64 .ensures) (abs .abs-f64 .ensures))
+    ∙ ap (times (stepOf f64))
+    (taken-pattern f64 (bits .bits-f64 .ensures) (sign .is-sign-negative-f64 .ensures) (abs .abs-f64 .ensures))
     ∙ sym (ap exactOf (v .1))
 
 pub parts-of-spec : {M : Type 1} → statement M

@@ -1,6 +1,6 @@
 -- The weights of the value's own kind make the number of its key from its bits; what a program holds has no more bits than its kind.
 use mathlib.Core.Path.{_≡_, _∙_}
-use Rattle.value.specs.Meaning.{InRange, contentOf}
+use Rattle.value.specs.Meaning.{InRange}
 use Rattle.key.specs.Key.{keyNumber}
 use Rattle.key.specs.Inner.{InWeights, numberByWeights}
 use Rattle.key.proofs.KeyNumbers.{value-room, value-number}
@@ -9,7 +9,7 @@ use borrow.Author.Needs.{needs}
 use Rattle.key.proofs.numbers.number_of.Statement.{statement}
 use Rattle.key.proofs.numbers.number_of.Tie as tie
 
-held : (c : tie.Start) → InRange (contentOf (c .args .v))
+held : (c : tie.Start) → InRange (c .args .v)
 held c = value-held (c .args .v) _ (c .good .0)
 
 room : (c : tie.After-weights-of) → InWeights (c .weights-of .result) (c .before .before .bits-of .result)

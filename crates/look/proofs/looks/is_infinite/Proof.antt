@@ -1,6 +1,6 @@
 -- A float's bits tell it; an integer is none.
 use mathlib.Core.Path.{sym, _∙_, ap}
-use lib.Ieee.{binary32, binary64}
+use Rattle.float.specs.Format.{f32, f64}
 use Rattle.look.specs.Report.{infinite}
 use Rattle.look.proofs.ByBits.{infinite-float, infinite-integer}
 use borrow.Author.Needs.{needs}
@@ -11,13 +11,13 @@ returns : tie.Need-returns
 returns c =
     let told = c .before in
     let known = told .before .before in
-    c .is-infinite-f32 .ensures ∙ infinite-float binary32 _ _ (told .bits-f32 .ensures) ∙ sym (ap infinite (known .v .given .1))
+    c .is-infinite-f32 .ensures ∙ infinite-float f32 (told .bits-f32 .ensures) ∙ sym (ap infinite (known .v .given .1))
 
 returns-2 : tie.Need-returns-2
 returns-2 c =
     let told = c .before in
     let known = told .before .before in
-    c .is-infinite-f64 .ensures ∙ infinite-float binary64 _ _ (told .bits-f64 .ensures) ∙ sym (ap infinite (known .v2 .given .1))
+    c .is-infinite-f64 .ensures ∙ infinite-float f64 (told .bits-f64 .ensures) ∙ sym (ap infinite (known .v2 .given .1))
 
 returns-3 : tie.Need-returns-3
 returns-3 c = infinite-integer (c .before .args .v) (c .match .keys3)

@@ -1,6 +1,6 @@
 -- A float's bits are tested; an integer is none.
 use mathlib.Core.Path.{sym, _∙_, ap}
-use lib.Ieee.{binary32, binary64}
+use Rattle.float.specs.Format.{f32, f64}
 use Rattle.look.specs.Report.{minusZero}
 use Rattle.look.proofs.ByBits.{minus-zero-float, minus-zero-integer}
 use borrow.Author.Needs.{needs}
@@ -10,12 +10,12 @@ use Rattle.look.proofs.looks.is_minus_zero.Tie as tie
 returns : tie.Need-returns
 returns c =
     let known = c .before .before in
-    minus-zero-float binary32 _ _ (c .bits-f32 .ensures) ∙ sym (ap minusZero (known .v .given .1))
+    minus-zero-float f32 (c .bits-f32 .ensures) ∙ sym (ap minusZero (known .v .given .1))
 
 returns-2 : tie.Need-returns-2
 returns-2 c =
     let known = c .before .before in
-    minus-zero-float binary64 _ _ (c .bits-f64 .ensures) ∙ sym (ap minusZero (known .v2 .given .1))
+    minus-zero-float f64 (c .bits-f64 .ensures) ∙ sym (ap minusZero (known .v2 .given .1))
 
 returns-3 : tie.Need-returns-3
 returns-3 c = minus-zero-integer (c .before .args .v) (c .match .keys3)

@@ -1,6 +1,6 @@
 -- The class of the format.
 use borrow.Author.Needs.{needs}
-use Rattle.float.specs.Format.{classOf}
+use Rattle.float.specs.Format.{classIn}
 use Rattle.silamogo.proofs.SampleRules.{f32-bits, is-f32, is-f64}
 use Rattle.silamogo.proofs.floats.class_of.Statement.{statement}
 use Rattle.silamogo.proofs.floats.class_of.Tie as tie
@@ -13,12 +13,12 @@ cast-class-f32 c =
 returns : tie.Need-returns
 returns c =
     let is = c .before .before in
-    is-f32 classOf (is .before .before .args .s) (is .if1 .taken) (c .class-f32 .ensures)
+    is-f32 classIn (is .before .before .args .s) (is .if1 .taken) (c .class-f32 .ensures)
 
 returns-2 : tie.Need-returns-2
 returns-2 c =
     let is = c .before in
-    is-f64 classOf (is .before .before .args .s) (is .if1 .left) (c .class-f64 .ensures)
+    is-f64 classIn (is .before .before .args .s) (is .if1 .left) (c .class-f64 .ensures)
 
 pub class-of-spec : {M : Type 1} → statement M
 class-of-spec =

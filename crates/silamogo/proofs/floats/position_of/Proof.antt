@@ -5,7 +5,7 @@ use lib.Dec.{lit≤}
 use mir.Syntax.{w32, w64}
 use mir.Val.{SFits}
 use mir.ValLaws.{toZ-ofZ}
-use Rattle.float.specs.Format.{positionOf}
+use Rattle.float.specs.Format.{positionIn}
 use Rattle.value.proofs.TwosComplement.{wider, recast, recast-back}
 use Rattle.silamogo.proofs.SampleRules.{f32-bits, is-f32, is-f64}
 use Rattle.silamogo.proofs.floats.position_of.Statement.{statement}
@@ -25,13 +25,13 @@ cast-result c = recast w64 (fits c) (wider w64 (lit≤ tt) (fits c))
 returns : tie.Need-returns
 returns c =
     let is = c .before .before in
-    is-f32 positionOf (is .before .before .args .s) (is .if1 .taken) (recast-back w64 (fits c) (wider w64 (lit≤ tt) (fits c)) ∙ c .position-f32 .ensures)
+    is-f32 positionIn (is .before .before .args .s) (is .if1 .taken) (recast-back w64 (fits c) (wider w64 (lit≤ tt) (fits c)) ∙ c .position-f32 .ensures)
 
 returns-2 : tie.Need-returns-2
 returns-2 c =
     let is = c .before in
     let f : SFits w64 (c .position-f64 .result) = search needs in
-    is-f64 positionOf (is .before .before .args .s) (is .if1 .left) (toZ-ofZ w64 _ f ∙ c .position-f64 .ensures)
+    is-f64 positionIn (is .before .before .args .s) (is .if1 .left) (toZ-ofZ w64 _ f ∙ c .position-f64 .ensures)
 
 pub position-of-spec : {M : Type 1} → statement M
 position-of-spec =

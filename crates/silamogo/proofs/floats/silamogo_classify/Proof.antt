@@ -2,7 +2,7 @@
 use mathlib.Core.Path.{_∙_, ap}
 use Prim.Native.Nat.{ℕ}
 use borrow.Author.Needs.{needs}
-use Rattle.float.specs.Format.{classOf}
+use Rattle.float.specs.Format.{classIn}
 use Rattle.value.specs.Outcome.{gives}
 use Rattle.silamogo.specs.declared.Classed.{Classed}
 use Rattle.silamogo.specs.Answer.{classNumber, classedOf}
@@ -18,7 +18,7 @@ returns : tie.Need-returns
 unfolding classifyOf
 returns c =
     let s = c .before .before .args .s in
-    ap classedOf (float-stop s (c .before .rule-of-float .ensures) (gives (ofFloat classOf s)) (c .if1 .taken))
+    ap classedOf (float-stop s (c .before .rule-of-float .ensures) (gives (ofFloat classIn s)) (c .if1 .taken))
 
 class-of-requires : tie.Need-class-of-requires
 class-of-requires c κs = float-narrow (c .before .before .args .s) (c .before .rule-of-float .ensures) (c .if1 .left)
@@ -29,7 +29,7 @@ returns-2 c =
     let past = c .before .before in
     let s = past .before .before .args .s in
     ap with-class (c .class-number .ensures ∙ ap classNumber (c .before .class-of .ensures))
-    ∙ ap classedOf (float-past s (past .before .rule-of-float .ensures) (gives (ofFloat classOf s)) (past .if1 .left))
+    ∙ ap classedOf (float-past s (past .before .rule-of-float .ensures) (gives (ofFloat classIn s)) (past .if1 .left))
 
 pub silamogo-classify-spec : {M : Type 1} → statement M
 silamogo-classify-spec =

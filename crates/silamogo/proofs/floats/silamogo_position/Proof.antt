@@ -5,7 +5,7 @@ use lib.IntN.{ℤ}
 use mir.Syntax.{w64}
 use mir.Val.{SFits}
 use mir.ValLaws.{toZ-ofZ}
-use Rattle.float.specs.Format.{positionOf}
+use Rattle.float.specs.Format.{positionIn}
 use Rattle.value.specs.Outcome.{gives}
 use Rattle.silamogo.specs.declared.Positioned.{Positioned}
 use Rattle.silamogo.specs.Answer.{positionedOf}
@@ -21,7 +21,7 @@ returns : tie.Need-returns
 unfolding samplePosition
 returns c =
     let s = c .before .before .args .s in
-    ap positionedOf (float-stop s (c .before .rule-of-float .ensures) (gives (ofFloat positionOf s)) (c .if1 .taken))
+    ap positionedOf (float-stop s (c .before .rule-of-float .ensures) (gives (ofFloat positionIn s)) (c .if1 .taken))
 
 position-of-requires : tie.Need-position-of-requires
 position-of-requires c κs = float-narrow (c .before .before .args .s) (c .before .rule-of-float .ensures) (c .if1 .left)
@@ -33,7 +33,7 @@ returns-2 c =
     let s = past .before .before .args .s in
     let f : SFits w64 (c .position-of .result) = search needs in
     ap at-position (toZ-ofZ w64 _ f ∙ c .position-of .ensures)
-    ∙ ap positionedOf (float-past s (past .before .rule-of-float .ensures) (gives (ofFloat positionOf s)) (past .if1 .left))
+    ∙ ap positionedOf (float-past s (past .before .rule-of-float .ensures) (gives (ofFloat positionIn s)) (past .if1 .left))
 
 pub silamogo-position-spec : {M : Type 1} → statement M
 silamogo-position-spec =

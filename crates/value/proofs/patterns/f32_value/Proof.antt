@@ -2,6 +2,7 @@
 use mathlib.Core.Path.{sym, _∙_}
 use borrow.Author.Needs.{needs}
 use lib.Ieee.{binary32}
+use Rattle.float.specs.Format.{f32}
 use Rattle.value.proofs.FloatBits.{from-bits, made-nan, word-beside, word-none}
 use Rattle.value.proofs.patterns.f32_value.Statement.{statement}
 use Rattle.value.proofs.patterns.f32_value.Tie as tie
@@ -12,10 +13,10 @@ float-from-bits-t5 c = from-bits binary32 _ (search needs) (sym (c .if1 .left) �
 returns : tie.Need-returns
 returns c =
     let h = sym (c .if1 .taken) ∙ c .before .is-nan-f32 .ensures in
-    cc (made-nan binary32 _ (search needs) h, word-beside 23 8 _ h)
+    cc (made-nan binary32 _ (search needs) h, word-beside f32 _ h)
 
 returns-2 : tie.Need-returns-2
-returns-2 c = cc (word-none 23 8 _ (sym (c .if1 .left) ∙ c .before .is-nan-f32 .ensures))
+returns-2 c = cc (word-none f32 _ (sym (c .if1 .left) ∙ c .before .is-nan-f32 .ensures))
 
 pub f32-value-spec : {M : Type 1} → statement M
 f32-value-spec = tie.close (tie.spec (λ c κs. search needs) float-from-bits-t5 returns returns-2)
