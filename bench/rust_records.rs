@@ -72,14 +72,14 @@ pub fn record_compare(a_kinds: &[u8], a_bits: &[u64], b_kinds: &[u8], b_bits: &[
 }
 
 fn compared(a_kinds: &[u8], a_bits: &[u64], b_kinds: &[u8], b_bits: &[u64]) -> Result<Option<Ordering>, Refused> {
+    counted(a_kinds)?;
+    counted(b_kinds)?;
     named(a_kinds)?;
     named(b_kinds)?;
     even(a_kinds, a_bits)?;
     even(b_kinds, b_bits)?;
     held(a_kinds, a_bits)?;
     held(b_kinds, b_bits)?;
-    counted(a_kinds)?;
-    counted(b_kinds)?;
     if a_kinds != b_kinds {
         return refused(7, 0);
     }
@@ -113,10 +113,10 @@ pub fn key_write(kinds: &[u8], bits: &[u64], buffer: &mut [u8]) -> Given<usize> 
 }
 
 fn written(kinds: &[u8], bits: &[u64], buffer: &mut [u8]) -> Result<usize, Refused> {
+    counted(kinds)?;
     named(kinds)?;
     even(kinds, bits)?;
     held(kinds, bits)?;
-    counted(kinds)?;
     let length = kinds.iter().map(|&kind| bytes(kind)).sum();
     if buffer.len() < length {
         return refused(10, 0);
@@ -163,9 +163,9 @@ pub fn key_read(kinds: &[u8], key: &[u8], bits: &mut [u64]) -> Answer {
 
 /// The fields stand aside until the last one is known to be well.
 fn read(kinds: &[u8], key: &[u8], bits: &mut [u64]) -> Result<(), Refused> {
+    counted(kinds)?;
     named(kinds)?;
     even(kinds, bits)?;
-    counted(kinds)?;
     if key.len() != kinds.iter().map(|&kind| bytes(kind)).sum() {
         return refused(9, 0);
     }
