@@ -13,8 +13,8 @@ const fn refused<T>(number: u8, place: usize) -> Result<T, Refused> {
     Err(Refused { number, place })
 }
 
-/// Of the kinds u8, u16, u32, u64, i8, i16, i32, i64, f32, f64.
-const BYTES: [usize; 10] = [1, 2, 4, 8, 1, 2, 4, 8, 4, 8];
+/// Of the kinds u8, u16, u32, u64, i8, i16, i32, i64, f32, f64, f16.
+const BYTES: [usize; 11] = [1, 2, 4, 8, 1, 2, 4, 8, 4, 8, 2];
 
 fn bytes(kind: u8) -> usize {
     BYTES[usize::from(kind)]
@@ -30,7 +30,7 @@ fn top(kind: u8) -> u64 {
 }
 
 fn named(kinds: &[u8]) -> Result<(), Refused> {
-    match kinds.iter().all(|&kind| kind < 10) {
+    match kinds.iter().all(|&kind| kind < 11) {
         true => Ok(()),
         false => refused(7, 0),
     }
@@ -100,8 +100,15 @@ fn field_order(kind: u8, a: u64, b: u64) -> Option<Ordering> {
         6 => Some((a as i32).cmp(&(b as i32))),
         7 => Some((a as i64).cmp(&(b as i64))),
         8 => f32::from_bits(a as u32).partial_cmp(&f32::from_bits(b as u32)),
-        _ => f64::from_bits(a).partial_cmp(&f64::from_bits(b)),
+        9 => f64::from_bits(a).partial_cmp(&f64::from_bits(b)),
+        _ => half_order(a as u16, b as u16),
     }
+}
+
+/// Of two f16, for which Rust has no type: by the magnitude with its sign, a whole number, so that the two zeros are equal.
+fn half_order(a: u16, b: u16) -> Option<Ordering> {
+    let [a, b] = [a, b].map(|x| if x < 0x8000 { i32::from(x) } else { 0x8000 - i32::from(x) });
+    (a.abs() <= 0x7c00 && b.abs() <= 0x7c00).then(|| a.cmp(&b))
 }
 
 #[inline(never)]
@@ -133,10 +140,11 @@ fn written(kinds: &[u8], bits: &[u64], buffer: &mut [u8]) -> Result<usize, Refus
     Ok(length)
 }
 
-fn is_nan(kind: u8, bits: u64) -> bool {
+pub fn is_nan(kind: u8, bits: u64) -> bool {
     match kind {
         8 => f32::from_bits(bits as u32).is_nan(),
         9 => f64::from_bits(bits).is_nan(),
+        10 => bits & 0x7fff > 0x7c00,
         _ => false,
     }
 }

@@ -54,10 +54,12 @@ static void samples(void) {
     say_sample("256 to u8", silamogo_convert(silamogo_u16(256), SILAMOGO_U8));
     say_sample("16777217 to f32", silamogo_convert(silamogo_u32(16777217), SILAMOGO_F32));
     say_sample("-1 to f64", silamogo_convert(silamogo_i8(-1), SILAMOGO_F64));
+    say_sample("1.5 from f16 to f32", silamogo_convert(silamogo_f16(0x3e00), SILAMOGO_F32));
+    say_sample("65505 to f16", silamogo_convert(silamogo_u16(65505), SILAMOGO_F16));
     say_sample("least of 3 and -2", silamogo_min(silamogo_i16(3), silamogo_i16(-2)));
     say_sample("greatest of a kind each", silamogo_max(silamogo_u8(3), silamogo_i8(3)));
     say_sample("clamp between 2 and 1", silamogo_clamp(silamogo_f64(1.5), silamogo_f64(2.0), silamogo_f64(1.0)));
-    say_sample("kind 10", silamogo_convert(silamogo_sample_of(10, 0), SILAMOGO_U8));
+    say_sample("kind 11", silamogo_convert(silamogo_sample_of(11, 0), SILAMOGO_U8));
     say_sample("u8 of nine bits", silamogo_convert(silamogo_sample_of(SILAMOGO_U8, 0x100), SILAMOGO_U16));
 }
 
@@ -81,6 +83,11 @@ static void records(void) {
     say("a byte too few", silamogo_key_read(shape, 3, key, written.length - 1, fields, 3));
     memset(key + 4, 0xff, 4);
     say("a NaN", silamogo_key_read(shape, 3, key, written.length, fields, 3));
+
+    const uint8_t light[1] = {SILAMOGO_F16};
+    const uint64_t bright[1] = {silamogo_f16(0x3e00).bits};
+    written = silamogo_key_write(light, 1, bright, 1, key, sizeof key);
+    printf("key of %zu bytes: %02x %02x\n", written.length, key[0], key[1]);
 }
 
 int main(void) {

@@ -1,4 +1,4 @@
-/* Silamogo from C: samples of ten kinds classified, compared, clamped and converted exactly; records compared; keys written and read.
+/* Silamogo from C: samples of eleven kinds classified, compared, clamped and converted exactly; records compared; keys written and read.
  *
  * Link target/staticlib/libsilamogo.a (`rt staticlib silamogo` proves the library and writes it). docs/RULES.md has the rules that are
  * cited here by their headings.
@@ -21,7 +21,7 @@
 extern "C" {
 #endif
 
-/* The kinds (RULES: The ten kinds). No other number names one. */
+/* The kinds (RULES: The kinds). No other number names one. The float kinds are 8 to 10. */
 enum silamogo_kind {
     SILAMOGO_U8 = 0,
     SILAMOGO_U16 = 1,
@@ -32,7 +32,8 @@ enum silamogo_kind {
     SILAMOGO_I32 = 6,
     SILAMOGO_I64 = 7,
     SILAMOGO_F32 = 8,
-    SILAMOGO_F64 = 9
+    SILAMOGO_F64 = 9,
+    SILAMOGO_F16 = 10
 };
 
 /* The numbers of refusal (RULES: Refusals). The place is the index of the first field or sample that the rule holds for, else 0. */
@@ -169,7 +170,7 @@ silamogo_measured silamogo_key_write(const uint8_t *kinds, size_t kinds_length, 
 silamogo_answer silamogo_key_read(const uint8_t *kinds, size_t kinds_length, const uint8_t *key, size_t key_length,
                                   uint64_t *bits, size_t bits_length);
 
-/* ---- samples made from C's own numbers */
+/* ---- samples made from C's own numbers; of f16, for which C99 has no type, from its bits */
 
 static inline silamogo_sample silamogo_sample_of(uint8_t kind, uint64_t bits) {
     silamogo_sample s;
@@ -198,6 +199,8 @@ static inline silamogo_sample silamogo_f64(double x) {
     memcpy(&bits, &x, sizeof bits);
     return silamogo_sample_of(SILAMOGO_F64, bits);
 }
+
+static inline silamogo_sample silamogo_f16(uint16_t bits) { return silamogo_sample_of(SILAMOGO_F16, bits); }
 
 #ifdef __cplusplus
 }

@@ -65,10 +65,14 @@ def samples():
     print("0.1 in f32:", tried(sample, Kind.F32, 0.1))
     print("2^53 + 1 in f64:", tried(sample, Kind.F64, 2**53 + 1))
     print("-1 to f64:", silamogo.number(silamogo.convert(sample(Kind.I8, -1), Kind.F64)))
+    print("1.5 in f16:", sample(Kind.F16, 1.5))
+    print("1.5 from f16 to f32:", silamogo.convert(Sample(Kind.F16, 0x3E00), Kind.F32))
+    print("65505 in f16:", tried(sample, Kind.F16, 65505))
+    print("2049 in f16:", tried(sample, Kind.F16, 2049))
     print("least of 3 and -2:", silamogo.number(silamogo.minimum(sample(Kind.I16, 3), sample(Kind.I16, -2))))
     print("greatest of a kind each:", tried(silamogo.maximum, sample(Kind.U8, 3), sample(Kind.I8, 3)))
     print("clamp between 2 and 1:", tried(silamogo.clamp, *(sample(Kind.F64, x) for x in (1.5, 2.0, 1.0))))
-    print("kind 10:", tried(silamogo.convert, Sample(10, 0), Kind.U8))
+    print("kind 11:", tried(silamogo.convert, Sample(11, 0), Kind.U8))
     print("u8 of nine bits:", tried(silamogo.convert, Sample(Kind.U8, 0x100), Kind.U16))
     print("bits of 65 bits:", tried(silamogo.convert, Sample(Kind.U8, 1 << 64), Kind.U16))
 
@@ -85,6 +89,7 @@ def records():
     print("a NaN:", tried(silamogo.key_read, shape, key[:4] + b"\xff" * 4))
     print("a short buffer:", tried(silamogo.key_write, tile, bytearray(7)))
     print("both keys:", [key.hex() for key in silamogo.keys(shape, array("Q", [s.bits for s in tile + other]))])
+    print("key of an f16:", silamogo.key([sample(Kind.F16, 1.5)]).hex(" "))
 
 
 rows()

@@ -6,6 +6,7 @@ sys.dont_write_bytecode = True
 
 import numpy
 import silamogo
+from silamogo import Kind, sample
 
 
 def tried(call, *arguments):
@@ -44,3 +45,10 @@ print("high byte first:", tried(silamogo.row_u16_to_f32, greys.astype(">u2"), re
 print("signed greys:", tried(silamogo.row_u16_to_f32, greys.astype(numpy.int16), reals))
 wide.flags.writeable = False
 print("into a row that may only be read:", tried(silamogo.row_u8_to_u16, narrow, wide))
+
+halves = numpy.array([1.5, -0.0, 65504, 2.0**-24], dtype=numpy.float16)
+print("float16 as samples:", [sample(Kind.F16, x) for x in halves])
+print("and to f32:", [silamogo.number(silamogo.convert(sample(Kind.F16, x), Kind.F32)) for x in halves])
+print("65505 in f16:", tried(sample, Kind.F16, numpy.uint16(65505)))
+print("keys of float16:", [key.hex() for key in silamogo.keys([Kind.F16], halves.view(numpy.uint16).astype(numpy.uint64))])
+print("float16 lent as greys:", tried(silamogo.row_u16_to_f32, halves, reals[:4]))

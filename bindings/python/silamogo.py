@@ -1,4 +1,4 @@
-"""Silamogo from Python: samples of ten kinds, rows, records and keys, by ctypes alone (silamogo_boundary.py).
+"""Silamogo from Python: samples of eleven kinds, rows, records and keys, by ctypes alone (silamogo_boundary.py).
 
 The shared library is looked for at the path in SILAMOGO_LIBRARY, or beside this file and in the repository's target/. To make it:
 
@@ -8,7 +8,7 @@ The shared library is looked for at the path in SILAMOGO_LIBRARY, or beside this
 A call gives its result or raises Refusal, with the number and the place of docs/RULES.md; after it everything that was lent is as it was.
 A row is any object with the buffer protocol, contiguous; it is lent, never copied, and no other thread may change it meanwhile.
 
-- The items of array.array, NumPy arrays, ctypes arrays and memoryviews of these have to be the row's own: `H` for u16, and not `B` or `h`.
+- The items of array.array, NumPy arrays, ctypes arrays and memoryviews of these have to be the row's own: `H` for u16, and not `B`, `h` or `e`.
 - Raw bytes, that is bytes (to read from), bytearray and memoryviews of these, are taken as items of any kind, low byte first.
 """
 
@@ -20,7 +20,7 @@ from numbers import Integral, Rational, Real
 
 from silamogo_boundary import Refusal, Row, ask, keys_of, parts, passed, word, words
 
-Kind = IntEnum("Kind", ["U8", "U16", "U32", "U64", "I8", "I16", "I32", "I64", "F32", "F64"], start=0)
+Kind = IntEnum("Kind", ["U8", "U16", "U32", "U64", "I8", "I16", "I32", "I64", "F32", "F64", "F16"], start=0)
 Order = IntEnum("Order", ["LESS", "EQUAL", "GREATER", "UNORDERED"], start=0)
 Class = IntEnum("Class", ["ZERO", "SUBNORMAL", "NORMAL", "INFINITE", "NAN"], start=0)
 
@@ -69,17 +69,17 @@ def number(s):
     kind, bits = _given(ask("convert", own, own.kind))
     width = _bits(kind)
     if kind >= Kind.F32:
-        layout = {32: ("<I", "<f"), 64: ("<Q", "<d")}[width]
+        layout = {16: ("<H", "<e"), 32: ("<I", "<f"), 64: ("<Q", "<d")}[width]
         return struct.unpack(layout[1], struct.pack(layout[0], bits))[0]
     negative = kind >= Kind.I8 and bits >> (width - 1)
     return bits - (1 << width) if negative else bits
 
 
 def _bits(kind):
-    return [8, 16, 32, 64, 8, 16, 32, 64, 32, 64][kind]
+    return [8, 16, 32, 64, 8, 16, 32, 64, 32, 64, 16][kind]
 
 
-_LARGEST = {Kind.F32: (2**24 - 1) << 104, Kind.F64: (2**53 - 1) << 971}  # finite number of a float kind
+_LARGEST = {Kind.F32: (2**24 - 1) << 104, Kind.F64: (2**53 - 1) << 971, Kind.F16: 65504}  # finite number of a float kind
 
 
 def _kind(kind):

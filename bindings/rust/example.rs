@@ -41,6 +41,9 @@ fn samples() -> silamogo::Result<()> {
     println!("256 to u8: {:?}", u8::try_from(Sample::from(256u16)));
     println!("16777217 to f32: {:?}", f32::try_from(Sample::from(16777217u32)));
     println!("-1 to f64: {:?}", f64::try_from(Sample::from(-1i8)));
+    println!("1.5 from f16 to f32: {:?}", f32::try_from(Sample::f16(0x3e00)));
+    println!("1.5 to f16: {:04x}", silamogo::convert(1.5f64.into(), Kind::F16)?.bits);
+    println!("65505 to f16: {:?}", silamogo::convert(65505u16.into(), Kind::F16));
     println!("least of 3 and -2: {}", i16::try_from(silamogo::min(3i16.into(), (-2i16).into())?)?);
     println!("greatest of a kind each: {:?}", silamogo::max(3u8.into(), 3i8.into()));
     println!("clamp between 2 and 1: {:?}", silamogo::clamp(1.5f64.into(), 2f64.into(), 1f64.into()));
@@ -68,6 +71,10 @@ fn records() -> silamogo::Result<()> {
     let (mut keys, mut lengths) = ([0; 16], [0; 2]);
     silamogo::keys_write(&shape, &[tile, next].concat(), &mut keys, &mut lengths)?;
     println!("both keys: {keys:02x?}, lengths {lengths:?}");
+
+    let mut light = [0; 2];
+    silamogo::key_write(&[Kind::F16], &[Sample::f16(0x3e00).bits], &mut light)?;
+    println!("key of an f16: {light:02x?}");
     Ok(())
 }
 

@@ -8,7 +8,7 @@
 use std::cmp::Ordering;
 use std::fmt;
 
-/// The ten kinds, under their numbers.
+/// The kinds, under their numbers.
 #[repr(u8)]
 #[derive(Clone, Copy, Debug, PartialEq, Eq, Hash)]
 pub enum Kind {
@@ -22,22 +22,31 @@ pub enum Kind {
     I64,
     F32,
     F64,
+    F16,
 }
 
 impl Kind {
-    pub const ALL: [Kind; 10] =
-        [Kind::U8, Kind::U16, Kind::U32, Kind::U64, Kind::I8, Kind::I16, Kind::I32, Kind::I64, Kind::F32, Kind::F64];
+    pub const ALL: [Kind; 11] =
+        [Kind::U8, Kind::U16, Kind::U32, Kind::U64, Kind::I8, Kind::I16, Kind::I32, Kind::I64, Kind::F32, Kind::F64, Kind::F16];
 }
 
 /// The longest key: 12 fields of 8 bytes.
 pub const LONGEST_KEY: usize = 96;
 
 /// A kind and the bits of a number of that kind, a signed one in two's complement of its own width; the bits above are 0, else every call
-/// refuses the sample with 4. `Sample::from` makes one from a number, and `try_from` gives the number by exact conversion.
+/// refuses the sample with 4. `Sample::from` makes one from a number, and `try_from` gives the number by exact conversion; `Sample::f16` makes
+/// one of the kind that Rust has no stable type for.
 #[derive(Clone, Copy, Debug, PartialEq, Eq, Hash)]
 pub struct Sample {
     pub kind: Kind,
     pub bits: u64,
+}
+
+impl Sample {
+    /// An f16 by its bits: 1 of sign, 5 of exponent, 10 of fraction. The way back is `convert(s, Kind::F16)?.bits as u16`.
+    pub const fn f16(bits: u16) -> Sample {
+        Sample { kind: Kind::F16, bits: bits as u64 }
+    }
 }
 
 #[derive(Clone, Copy, Debug, PartialEq, Eq, Hash)]

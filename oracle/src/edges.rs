@@ -3,24 +3,37 @@
 use crate::random::Random;
 use crate::value::{Form, Kind, Value};
 
-/// Powers of two at which a kind ends, or begins to lack whole numbers.
-fn powers() -> Vec<u32> {
-    let power = |kind: &Kind| match kind.form() {
+/// The power of two at which a kind ends, or begins to lack whole numbers.
+fn power(kind: Kind) -> u32 {
+    match kind.form() {
         Form::Unsigned => kind.width(),
         Form::Signed => kind.width() - 1,
         Form::Float { fraction } => fraction + 1,
-    };
-    Kind::ALL.iter().map(power).collect()
+    }
 }
 
-/// Whole numbers around these powers and the least ones, of either sign.
+/// A number times a power of two where it is a whole number of 64 bits.
+fn whole(number: u64, power: i32) -> Option<u64> {
+    let power = u32::try_from(power).ok()?;
+    let whole = number.checked_shl(power)?;
+    (whole >> power == number).then_some(whole)
+}
+
+/// Whole numbers around this power and the ends of a float kind, of either sign.
+pub fn whole_numbers_of(kind: Kind) -> Vec<i128> {
+    let ends = kind.is_float().then(|| ends(kind));
+    let ends = ends.into_iter().flatten();
+    let ends = ends.filter_map(|(number, power)| whole(number, power));
+    let sizes = ends.map(i128::from).chain([1 << power(kind)]);
+    let near = sizes.flat_map(|size| [-1, 0, 1, 2].map(|step| size + step));
+    near.flat_map(|size| [size, -size]).collect()
+}
+
+/// Those of all kinds, and the least ones.
 pub fn whole_numbers() -> Vec<i128> {
-    let mut sizes = vec![1, 2, 3];
-    for power in powers() {
-        sizes.extend([-1, 0, 1, 2].map(|step| (1i128 << power) + step));
-    }
-    let signed = sizes.into_iter().flat_map(|size| [size, -size]);
-    [0].into_iter().chain(signed).collect()
+    let least = -3..=3;
+    let all = Kind::ALL.iter().flat_map(|&kind| whole_numbers_of(kind));
+    least.chain(all).collect()
 }
 
 /// The pattern of number * 2^power where the kind has it as a normal number.
@@ -37,7 +50,7 @@ pub fn pattern(kind: Kind, number: u64, power: i32) -> Option<u64> {
 
 /// The least and greatest magnitudes of a float kind, and where its subnormals
 /// end: a number and a power of two each.
-pub fn ends(kind: Kind) -> [(u64, i32); 6] {
+pub fn ends(kind: Kind) -> [(u64, i32); 7] {
     let (unit, one) = (kind.unit(), kind.bias() as i32);
     let least = 1 - one - kind.fraction() as i32;
     let greatest = one - kind.fraction() as i32;
@@ -47,27 +60,24 @@ pub fn ends(kind: Kind) -> [(u64, i32); 6] {
         (unit - 1, least),
         (unit, least),
         (2 * unit - 1, greatest),
-        (1, one + 1), // past the greatest
+        (4 * unit - 1, greatest - 1), // the least that rounds to an infinity
+        (1, one + 1),                 // past the greatest
     ]
 }
 
 /// The edges of a kind without a sign, rising.
 pub fn edges(kind: Kind) -> Vec<u64> {
     let mut edges = vec![0, 1, 2];
-    let powers = powers().into_iter();
-    let whole = powers.flat_map(|power| [(u64::MAX >> (64 - power), 0), (1, power)]);
+    let powers = Kind::ALL.iter().map(|&kind| power(kind));
+    let powers = powers.flat_map(|power| [(u64::MAX >> (64 - power), 0), (1, power as i32)]);
+    let ends = Kind::floats().into_iter().flat_map(ends);
+    let numbers = powers.chain(ends);
     if kind.is_float() {
         edges.extend(float_edges(kind));
         edges.extend(nans(kind));
-        let whole = whole.map(|(number, power)| (number, power as i32));
-        let ends = Kind::floats().into_iter().flat_map(ends);
-        edges.extend(
-            whole
-                .chain(ends)
-                .filter_map(|(number, power)| pattern(kind, number, power)),
-        );
+        edges.extend(numbers.filter_map(|(number, power)| pattern(kind, number, power)));
     } else {
-        edges.extend(whole.filter_map(|(number, power)| number.checked_shl(power)));
+        edges.extend(numbers.filter_map(|(number, power)| whole(number, power)));
     }
     edges.retain(|&edge| edge <= kind.mask());
     edges.sort_unstable();
@@ -102,11 +112,33 @@ pub fn nans(kind: Kind) -> [u64; 5] {
 
 /// The edges of a kind with either sign, and their neighbours by bits.
 pub fn all_edges(kind: Kind) -> Vec<Value> {
+    with_neighbours(kind, &edges(kind))
+}
+
+/// Of a wider float kind every number of a narrow one, and what lies half a step
+/// beyond it, with either sign, and their neighbours by bits.
+pub fn around_numbers(narrow: Kind, wide: Kind) -> Vec<Value> {
+    let (unit, (_, step)) = (narrow.unit(), ends(narrow)[1]);
+    let mut patterns = vec![0];
+    for bits in 0..narrow.infinity() {
+        let (exponent, fraction) = ((bits / unit) as i32, bits % unit);
+        let (number, power) = match exponent {
+            0 => (fraction, step),
+            _ => (unit + fraction, step + exponent - 1),
+        };
+        let halves = [2 * number, 2 * number + 1].into_iter();
+        let halves = halves.filter(|&number| number > 0);
+        patterns.extend(halves.filter_map(|number| pattern(wide, number, power - 1)));
+    }
+    with_neighbours(wide, &patterns)
+}
+
+fn with_neighbours(kind: Kind, patterns: &[u64]) -> Vec<Value> {
     let mut values = Vec::new();
-    for edge in edges(kind) {
+    for pattern in patterns {
         for sign in [0, kind.top()] {
-            let edge = Value::new(kind, sign | edge);
-            values.extend([0, 1, -1].map(|steps| edge.stepped(steps)));
+            let value = Value::new(kind, sign | pattern);
+            values.extend([0, 1, -1].map(|steps| value.stepped(steps)));
         }
     }
     values.sort_unstable_by_key(|value| value.bits);
@@ -179,6 +211,50 @@ mod tests {
         }
         for nan in [0x7f80_0001, 0x7fbf_ffff, 0x7fc0_0000, 0x7fff_ffff] {
             assert!(edges(Kind::F32).contains(&nan), "{nan:x}");
+        }
+    }
+
+    /// By hand, as Rust has no f16; and the ends of its numbers in other kinds.
+    #[test]
+    fn edges_of_f16() {
+        let least = [0, 1, 2, 0x0200, 0x03ff, 0x0400, 0x0401];
+        let middle = [
+            0x3800, 0x3bff, 0x3c00, 0x3c01, 0x3e00, 0x4000, 0x67ff, 0x6800,
+        ];
+        let greatest = [0x7bff, 0x7c00, 0x7c01, 0x7dff, 0x7e00, 0x7e01, 0x7fff];
+        for bits in least.into_iter().chain(middle).chain(greatest) {
+            assert!(edges(Kind::F16).contains(&bits), "{bits:x}");
+        }
+        let powers = [-25, -24, -14].map(|power| 2f32.powi(power));
+        let whole = [2047.0, 2048.0, 65504.0, 65520.0, 65536.0];
+        for number in powers.into_iter().chain(whole) {
+            assert!(
+                edges(Kind::F32).contains(&number.to_bits().into()),
+                "{number}"
+            );
+            let wide = f64::from(number).to_bits();
+            assert!(edges(Kind::F64).contains(&wide), "{number}");
+        }
+        let near: Vec<u64> = all_edges(Kind::U16).iter().map(|edge| edge.bits).collect();
+        for number in [2047, 2048, 2049, 65504, 65505, 65519, 65520, 65521] {
+            assert!(near.contains(&number), "{number}");
+            assert!(whole_numbers().contains(&number.into()), "{number}");
+        }
+    }
+
+    /// The numbers of f16 and as many half a step beyond, each with its two
+    /// neighbours and with either sign.
+    #[test]
+    fn around_the_numbers_of_f16() {
+        for kind in [Kind::F32, Kind::F64] {
+            let values = around_numbers(Kind::F16, kind);
+            assert_eq!(values.len(), 0x7c00 * 2 * 3 * 2);
+            for (number, power) in ends(Kind::F16) {
+                let bits = pattern(kind, number, power).expect("a wider kind");
+                // 65536 is no number of f16, and half a step from none.
+                let has = values.contains(&Value { kind, bits });
+                assert_eq!(has, power < 16, "{number} {power}");
+            }
         }
     }
 

@@ -2,6 +2,7 @@
 
 pub mod choice;
 pub mod convert;
+pub mod half;
 pub mod key;
 pub mod native;
 pub mod order;

@@ -4,9 +4,11 @@
 use crate::random::Random;
 
 /// In the place of a field, parted by spaces.
-const PIECES: &str = "- -- , # 0 00 01 +1 -1 1.0 0x1 129 8193 18446744073709551616 u8 U8 u24 bf16 \
-    u128 usize bool u8: :00 u8:0 u8:000 u8:0A u8:-1 bf16:0000 f32:1.5 f32:nan u8=00 u8:00, ,u8:00 \
-    u8:00,,u8:00 u8:00;u8:01 u8:00,- u8:00 class max clamp read min_by row_clamp rows prefix";
+const PIECES: &str = "\
+    - -- , # 0 00 01 +1 -1 1.0 0x1 129 8193 18446744073709551616 u8 U8 u24 \
+    bf16 f8 u128 usize bool u8: :00 u8:0 u8:000 u8:0A u8:-1 bf16:0000 f16:000 \
+    f16:7C00 f32:1.5 f32:nan u8=00 u8:00, ,u8:00 u8:00,,u8:00 u8:00;u8:01 \
+    u8:00,- u8:00 class max clamp read min_by row_clamp rows prefix";
 
 /// In the place of the one space between fields.
 const PARTINGS: [&str; 8] = ["", "  ", "\t", " \t", ",", ":", "\r", "\0"];

@@ -3,7 +3,9 @@
 
 use crate::cases::Cases;
 use crate::fixed;
+use crate::judge::convert::{nearest, number};
 use crate::lines;
+use crate::value::{Kind, Value};
 
 /// A line in its fields, and the right answer.
 struct Case<'a> {
@@ -74,8 +76,32 @@ impl Case<'_> {
         self.fields[1].starts_with(from) && self.right.starts_with(to)
     }
 
+    /// The first operand, which is one value.
+    fn value(&self) -> Value {
+        Value::parse(self.fields[1].as_bytes()).expect("a value")
+    }
+
+    fn bits(&self) -> u64 {
+        self.value().bits
+    }
+
+    fn nearest_f16(&self) -> String {
+        nearest(number(self.value()), Kind::F16).to_string()
+    }
+
+    /// Whether a value is converted to the kind.
+    fn to(&self, kind: &str) -> bool {
+        self.fields[2] == kind
+    }
+
+    /// The f32 of an f16, made as if every number had a digit in front.
+    fn widened(&self) -> String {
+        format!("f32:{:08x}", (self.bits() << 13) + 0x3800_0000)
+    }
+
     fn minus_zero(&self) -> bool {
-        self.fields[1].trim_end_matches('0').ends_with(":8")
+        let value = Value::parse(self.fields[1].as_bytes());
+        value.is_some_and(|value| value.bits != 0 && value.is_zero())
     }
 
     fn first_fields(&self) -> String {
@@ -119,6 +145,7 @@ mistakes! { OF_VALUES of c:
     "total order by comparison", "total" => c.by("compare");
     "f32 by raw bits", "compare total" => c.read_as("f32", "u32");
     "f64 by raw bits", "compare total" => c.read_as("f64", "u64");
+    "f16 by raw bits", "compare total" => c.read_as("f16", "u16");
     "no sign", "compare total lt" => c.read_as(" i", " u");
     "NaN is itself", "compare" => c.when(c.fields[1] == c.fields[2], "Equal");
     "ne of a NaN", "ne" => c.when(c.by("compare") == "Unordered", "no");
@@ -135,10 +162,17 @@ mistakes! { OF_VALUES of c:
     "5 for 4", "convert row" => c.turned("refused 4", "refused 5");
     "4 before 3", "convert" => c.when(c.gives("f32:4", "refused 3"), "refused 4 0");
     "2 before 1", "convert row" => c.turned("refused 1 ", "refused 2 ");
-    "none above 2^53", "convert" => c.when(c.gives("u64:f", "f64"), "refused 5 0");
+    "none above 2^53", "convert" => c.when(c.bits() > 1 << 53 && c.gives("u64", "f64"), "refused 5 0");
     "no negative is whole", "convert" => c.when(c.gives("f32:c", "i"), "refused 3 0");
-    "minus zero is below", "convert" => c.when(c.minus_zero() && c.gives("f", "u"), "refused 4 0");
+    "minus zero is below", "convert" => c.when(c.minus_zero() && c.gives("", "u"), "refused 4 0");
     "rounded to 0", "convert" => c.when(c.gives("f64:3", "refused 5"), "f32:00000000");
+    "f16 ends at 65536", "convert" => c.when(c.to("f16") && c.gives("u16", "refused 4"), "refused 5 0");
+    "rounded to f16", "convert" => c.when(c.to("f16") && c.is_refused(5), &c.nearest_f16());
+    "past f16 is infinite", "convert" => c.when(c.to("f16") && c.is_refused(4), "f16:7c00");
+    "infinite is past f16", "convert" => c.when(c.gives("f", "f16:7c00"), "refused 4 0");
+    "no subnormal f16", "convert" => c.when(c.gives("f", "f16:00"), "f16:0000");
+    "small f16 as normal", "class" => c.when(c.gives("f16", "subnormal"), "normal");
+    "small f16 widened as normal", "convert" => c.when(c.gives("f16:0", "f32:3") && c.bits() < 0x400, &c.widened());
     "NaN bits change", "convert" => c.when(c.nan(1) && c.gives("f", "f"), "f32:7fc00000");
 }
 
@@ -160,7 +194,7 @@ mistakes! { OF_LISTS of c:
     "1 before 10", "write" => c.when(c.is_refused(10) && c.nan(1), "refused 1 0");
     "10 before 11", "write" => c.when(c.fields[2] == "0", "refused 10 0");
     "the rest is cleared", "write" => c.turned("a5", "00");
-    "minus zero written", "write" => c.when(c.gives("f32:80000000", "4 8"), "4 7fffffff");
+    "minus zero written", "write" => c.when(c.minus_zero(), &c.turned("80", "7f"));
     "minus zero read", "read" => c.when(c.fields[2] == "7fffffff", "f32:80000000");
     "NaN read", "read" => c.when(c.gives("f32", "refused 12 0"), "f32:7fc00000");
     "9 before 11", "read" => c.turned("refused 11", "refused 9");

@@ -59,10 +59,17 @@ fn written_answers() {
     }
 }
 
+/// Every value of a kind that has 16 bits at most.
+fn all(kind: Kind) -> impl Iterator<Item = Value> {
+    let all = (kind.width() <= 16).then(|| 0..=kind.mask());
+    let values = all.into_iter().flatten();
+    values.map(move |bits| Value::new(kind, bits))
+}
+
 #[test]
-fn classes_of_edges() {
+fn classes_of_edges_and_narrow_kinds() {
     for kind in Kind::floats() {
-        for value in all_edges(kind) {
+        for value in all_edges(kind).into_iter().chain(all(kind)) {
             check(&format!("class {value}"));
         }
     }
@@ -86,6 +93,20 @@ fn pairs_of_bytes() {
     for kind in [Kind::U8, Kind::I8] {
         for bits in 0..0x1_0000 {
             check_pair(Value::new(kind, bits >> 8), Value::new(kind, bits));
+        }
+    }
+}
+
+/// Every value of a narrow kind against the next one, the one of the other sign
+/// and one anywhere.
+#[test]
+fn pairs_of_narrow_kinds() {
+    let mut random = Random::new(22);
+    for &kind in Kind::ALL {
+        for value in all(kind) {
+            check_pair(value, value.stepped(1));
+            check_pair(value, Value::new(kind, value.bits ^ kind.top()));
+            check_pair(value, Value::new(kind, random.next()));
         }
     }
 }
@@ -126,11 +147,8 @@ fn kinds_that_differ() {
 #[test]
 fn conversions_of_edges_and_narrow_kinds() {
     for &kind in Kind::ALL {
-        all_edges(kind).into_iter().for_each(check_conversions);
-        if kind.width() <= 16 {
-            let all = (0..=kind.mask()).map(|bits| Value::new(kind, bits));
-            all.for_each(check_conversions);
-        }
+        let values = all_edges(kind).into_iter().chain(all(kind));
+        values.for_each(check_conversions);
     }
 }
 
@@ -150,6 +168,15 @@ fn conversions_around_whole_numbers() {
                 let number = Number::Float(number as f64 + fraction);
                 check_conversions(nearest(number, kind));
             }
+        }
+    }
+}
+
+#[test]
+fn conversions_around_f16() {
+    for kind in [Kind::F32, Kind::F64] {
+        for value in edges::around_numbers(Kind::F16, kind) {
+            check(&format!("convert {value} f16"));
         }
     }
 }

@@ -47,6 +47,7 @@ kinds! {
     I64 "i64" 64 Form::Signed;
     F32 "f32" 32 Form::Float { fraction: 23 };
     F64 "f64" 64 Form::Float { fraction: 52 };
+    F16 "f16" 16 Form::Float { fraction: 10 };
 }
 
 impl Kind {
@@ -212,6 +213,22 @@ mod tests {
         assert_eq!(Kind::F64.one(), 1f64.to_bits());
         assert_eq!(Kind::F32.unit(), u64::from(f32::MIN_POSITIVE.to_bits()));
         assert_eq!(Kind::F64.unit(), f64::MIN_POSITIVE.to_bits());
+        // Rust has no f16.
+        assert_eq!(Kind::F16.infinity(), 0x7c00);
+        assert_eq!(Kind::F16.one(), 0x3c00);
+        assert_eq!(Kind::F16.unit(), 0x0400);
+    }
+
+    /// The numbers that the C boundary has for them.
+    #[test]
+    fn numbers_of_kinds() {
+        let numbers = Kind::ALL.iter().map(|&kind| kind as usize);
+        assert!(numbers.eq(0..11));
+        assert_eq!(Kind::parse(b"f16"), Some(Kind::F16));
+        assert_eq!(
+            [Kind::U8, Kind::F32, Kind::F64, Kind::F16].map(|kind| kind as u8),
+            [0, 8, 9, 10]
+        );
     }
 
     #[test]

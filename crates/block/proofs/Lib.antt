@@ -4,5 +4,7 @@ pub mod Pieces
 pub mod Blocks
 pub mod Rowing
 pub mod Pairs
+pub mod Halving
+pub mod HalfBits
 pub mod Joining
 pub mod Whole

@@ -42,7 +42,7 @@ use Rattle.block.proofs.Rowing.{map-same, map-both, Agree, row-is, left
 
 -- ---- one sample
 
-mapped-same : (o : Outcome ℕ) → o ≡ mapped (λ n. n) o
+pub mapped-same : (o : Outcome ℕ) → o ≡ mapped (λ n. n) o
 mapped-same (gives n) = refl
 mapped-same (refuses m p) = refl
 
@@ -102,11 +102,14 @@ widened-block src old room bytes {now} q =
 -- ---- u16 to f32
 
 -- where none passes a test, that at a place doesn't
-pub none-here : {A : Type 0} (test : A → Bool) (l : List A) (i : ℕ) (d : A) → any test l ≡ false → i < length l → T (not (test (getD l i d)))
+pub fails-here : {A : Type 0} (test : A → Bool) (l : List A) (i : ℕ) (d : A) → any test l ≡ false → i < length l → test (getD l i d) ≡ false
 unfolding any
-none-here test [] i d h l = absurd (not-suc-le-zero l)
-none-here test (x ∷ xs) zero d h l = subst (λ (b : Bool). T (not b)) (sym (neither (test x) (any test xs) h .0)) tt
-none-here test (x ∷ xs) (suc i) d h l = none-here test xs i d (neither (test x) (any test xs) h .1) (le-of-suc-le-suc l)
+fails-here test [] i d h l = absurd (not-suc-le-zero l)
+fails-here test (x ∷ xs) zero d h l = neither (test x) (any test xs) h .0
+fails-here test (x ∷ xs) (suc i) d h l = fails-here test xs i d (neither (test x) (any test xs) h .1) (le-of-suc-le-suc l)
+
+pub none-here : {A : Type 0} (test : A → Bool) (l : List A) (i : ℕ) (d : A) → any test l ≡ false → i < length l → T (not (test (getD l i d)))
+none-here test l i d h k = subst (λ (b : Bool). T (not b)) (sym (fails-here test l i d h k)) tt
 
 -- no cast is a NaN
 cast-number : (x : Float) (s : Bool) (n : ℕ) → HasValue x s n 1 → isNan x ≡ false

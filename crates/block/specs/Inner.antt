@@ -2,7 +2,9 @@
 use Prim.Native.Nat.{ℕ}
 use lib.Ieee.{Float, binary32}
 use Rattle.value.specs.declared.Kind.{Kind}
+use Rattle.value.specs.declared.Kind.the-variants as kind
 use Rattle.value.specs.declared.Value.{Value}
+use Rattle.value.specs.declared.Value.the-variants.{F16}
 use Rattle.value.specs.Meaning.{floatBits}
 use Rattle.value.specs.Outcome.{Outcome, gives, refuses, lentAfter}
 use Rattle.row.specs.Inner.{asF32}
@@ -28,6 +30,10 @@ plainBits x = floatBits binary32 x 0
 -- the bits of the f32 that a u16 is cast to
 abbrev pub floatedBits : ℕ → ℕ
 floatedBits n = plainBits (asF32 n)
+
+-- the bits of the f32 that an f16 pattern is moved to
+abbrev pub halfBits : ℕ → ℕ
+halfBits b = movedBits kind.F32 (F16 b)
 
 -- the lent buffer after the block alone
 unfoldable pub blockExit : Kind → Kind → List ℕ → List ℕ → List ℕ

@@ -12,7 +12,7 @@ ghost use Rattle.block.specs.Output.{bytesFor};
 ghost use Rattle.block.specs.Inner.{plainBits};
 use value::Kind;
 
-fn pair(low: u8, high: u8) -> u16
+pub(crate) fn pair(low: u8, high: u8) -> u16
     ensures { λ r. ⌜ r ≡ high * 256 + low ⌝ }
 {
     (high as u16) * 256 + (low as u16)

@@ -10,6 +10,8 @@ ghost use Rattle.block.specs.Migrate.{placedFrom, blockAnswer, stepAnswe
 ghost use Rattle.block.specs.Inner.{blockExit};
 use crate::Progress;
 use crate::ROW_PLACES;
+use crate::halves::from_halves;
+use crate::halves::holds_nan;
 use crate::passes::first_refused;
 use crate::passes::write_samples;
 use crate::rows::floated;
@@ -45,7 +47,7 @@ fn one_by_one(from: Kind, to: Kind, src: &[u8], n: usize, dst: &mut [u8]) -> Row
     Rowed::Done
 }
 
-// The pairs that have rows go through the row calls, the others sample by sample.
+// The pairs that have rows go through the row calls, f16 to f32 without NaN through a pass of its own, all else sample by sample.
 fn by_pair(from: Kind, to: Kind, src: &[u8], n: usize, dst: &mut [u8]) -> Rowed
     requires { ⌜ (n ≡ countOf from (now src)) × (n ≤ length (now dst) / bytesOf to) ⌝ }
     ensures answer { λ r. ⌜ rowedOutcome r ≡ blockAnswer from to (now (src .entry)) ⌝ }
@@ -70,6 +72,14 @@ fn by_pair(from: Kind, to: Kind, src: &[u8], n: usize, dst: &mut [u8]) -> Rowed
                 one_by_one(from, to, src, n, dst)
             } else {
                 made_whole(src, n, dst)
+            },
+            _ => one_by_one(from, to, src, n, dst),
+        },
+        Kind::F16 => match to {
+            Kind::F32 => if holds_nan(src, n) {
+                one_by_one(from, to, src, n, dst)
+            } else {
+                from_halves(src, n, dst)
             },
             _ => one_by_one(from, to, src, n, dst),
         },

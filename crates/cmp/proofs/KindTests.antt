@@ -10,7 +10,7 @@ use types.Run.{OneOf, miss}
 use denote.Enum.Declared.{tagOf}
 use Rattle.value.specs.declared.Kind.{Kind}
 use Rattle.value.specs.declared.Value.{Value}
-use Rattle.value.specs.declared.Value.the-variants.{U8, U16, U32, U64, I8, I16, I32, I64, F32, F64}
+use Rattle.value.specs.declared.Value.the-variants.{U8, U16, U32, U64, I8, I16, I32, I64, F32, F64, F16}
 use Rattle.value.specs.Kinds.{kindOf, kindNumber, allKinds}
 use Rattle.value.proofs.KindNumbers.{number-injective}
 use Rattle.value.proofs.Value.{the-type}
@@ -28,6 +28,7 @@ kind-tag (I32 z) = refl
 kind-tag (I64 z) = refl
 kind-tag (F32 x w) = refl
 kind-tag (F64 x w) = refl
+kind-tag (F16 b) = refl
 
 -- the keys of an arm: the numbers of the kinds that have a property, in the kinds' order
 abbrev pub keysIn : (Kind → Bool) → List Kind → List ℕ

@@ -12,7 +12,7 @@ use Rattle.float.specs.Number as float-number
 use Rattle.float.specs.Order.{orderZ, orderOf, compareIn, patternIn}
 use Rattle.float.specs.Order as patterns
 use Rattle.value.specs.declared.Value.{Value}
-use Rattle.value.specs.declared.Value.the-variants.{U8, U16, U32, U64, I8, I16, I32, I64, F32, F64}
+use Rattle.value.specs.declared.Value.the-variants.{U8, U16, U32, U64, I8, I16, I32, I64, F32, F64, F16}
 use Rattle.value.proofs.Forms.{Whole}
 use Rattle.value.proofs.Units.{unit-pos, step-pos}
 use Rattle.value.proofs.TwosComplement.{wider, recast, recast-back}
@@ -49,6 +49,7 @@ whole-position (I32 z) t = refl
 whole-position (I64 z) t = refl
 whole-position (F32 x w) t = absurd t
 whole-position (F64 x w) t = absurd t
+whole-position (F16 b) t = absurd t
 
 pub positions-order : (a b : Value) → Whole a → Whole b → orderOf (numberOf a) (numberOf b) ≡ orderZ (positionOf a) (positionOf b)
 positions-order a b s t = cc (whole-position a s, whole-position b t) ∙ sym (integers-order (positionOf a) (positionOf b))

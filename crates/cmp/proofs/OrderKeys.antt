@@ -2,7 +2,7 @@
 use mathlib.Core.Path.{_≡_, refl, sym, subst}
 use mathlib.Core.Logic.{inl, inr}
 use mathlib.Core.List.{List, [], _∷_}
-use mathlib.Core.Bool.{Bool, true, false, _&&_}
+use mathlib.Core.Bool.{Bool, true, _&&_}
 use Prim.Native.Nat.{ℕ, zero, suc}
 use lib.Dec.{T}
 use types.Run.{OneOf}
@@ -10,20 +10,13 @@ use denote.Enum.Declared.{tagOf}
 use Rattle.float.specs.declared.Order.{Order}
 use Rattle.float.specs.declared.Order.the-variants.{Less, Equal, Greater, Unordered}
 use Rattle.float.proofs.Order.{the-type}
+use Rattle.float.proofs.Tests.{and-left, and-right}
 use Rattle.cmp.proofs.KindTests.{is-true}
 
 -- a test that holds of every key of an arm holds of the tag
 abbrev all : (ℕ → Bool) → ℕ → List ℕ → Bool
 all p j [] = p j
 all p j (i ∷ is) = p j && all p i is
-
-and-left : (a b : Bool) → T (a && b) → T a
-and-left true b t = tt
-and-left false b t = t
-
-and-right : (a b : Bool) → T (a && b) → T b
-and-right true b t = t
-and-right false b t = absurd t
 
 all-keys : (p : ℕ → Bool) (j : ℕ) (js : List ℕ) (x : ℕ) → T (all p j js) → OneOf (j ∷ js) x → T (p x)
 all-keys p j [] x t q = subst (λ (n : ℕ). T (p n)) (sym q) t

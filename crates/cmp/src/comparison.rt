@@ -3,6 +3,7 @@ ghost use mathlib.Core.Path.{_≡_};
 ghost use Rattle.value.specs.Outcome.{refuses};
 ghost use Rattle.cmp.specs.Compare.{comparedOutcome, compareOf};
 use crate::Compared;
+use float::compare_f16;
 use float::compare_f32;
 use float::compare_f64;
 use float::order_i64;
@@ -64,6 +65,10 @@ pub fn compare(a: Value, b: Value) -> Compared
         },
         Value::F64(x, v) => match b {
             Value::F64(y, w) => Compared::Is(compare_f64(bits_f64(x, v), bits_f64(y, w))),
+            _ => kinds_differ(),
+        },
+        Value::F16(x) => match b {
+            Value::F16(y) => Compared::Is(compare_f16(x, y)),
             _ => kinds_differ(),
         },
     }

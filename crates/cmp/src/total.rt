@@ -5,6 +5,7 @@ use crate::Compared;
 use crate::compare;
 use crate::comparison::kinds_differ;
 use float::order_i64;
+use float::position_f16;
 use float::position_f32;
 use float::position_f64;
 use value::Value;
@@ -28,6 +29,14 @@ pub fn total_order(a: Value, b: Value) -> Compared
                 let i = position_f64(bits_f64(x, v));
                 let j = position_f64(bits_f64(y, w));
                 Compared::Is(order_i64(i, j))
+            }
+            _ => kinds_differ(),
+        },
+        Value::F16(x) => match b {
+            Value::F16(y) => {
+                let i = position_f16(x);
+                let j = position_f16(y);
+                Compared::Is(order_i64(i as i64, j as i64))
             }
             _ => kinds_differ(),
         },

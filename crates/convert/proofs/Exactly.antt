@@ -11,7 +11,7 @@ use lib.Signed.{mag}
 use lib.Ieee.{ofBits}
 use lib.Ieee as language
 use Rattle.float.specs.Language.{ownOf}
-use Rattle.float.specs.Format.{Format, f32, f64, signIn}
+use Rattle.float.specs.Format.{Format, f16, f32, f64, signIn}
 use Rattle.float.specs.Number.{Exact, notNumber, infinite, finite, isNone, times, none}
 use Rattle.float.specs.Number as float-number
 use Rattle.float.specs.Order.{patternIn}
@@ -20,7 +20,7 @@ use Rattle.float.proofs.Tests.{clash}
 use Rattle.value.specs.declared.Kind.{Kind}
 use Rattle.value.specs.declared.Kind.the-variants as kind
 use Rattle.value.specs.declared.Value.{Value}
-use Rattle.value.specs.declared.Value.the-variants.{U8, U16, U32, U64, I8, I16, I32, I64}
+use Rattle.value.specs.declared.Value.the-variants.{U8, U16, U32, U64, I8, I16, I32, I64, F16}
 use Rattle.value.specs.Kinds.{kindOf, kindNumber, Form, floating, formOf}
 use Rattle.value.specs.Meaning.{exactOf, numberOf, bitsOf, stepOf, twosOf, fromTwos, f32Value, f64Value, valueOf, wordFor, floatBits}
 use Rattle.value.specs.Outcome.{Outcome, gives}
@@ -47,6 +47,7 @@ made-kind kind.I32 x = refl
 made-kind kind.I64 x = refl
 made-kind kind.F32 x = refl
 made-kind kind.F64 x = refl
+made-kind kind.F16 x = refl
 
 -- a float that the language holds as a float
 module _ (f : language.Format) (x : Exact) (a : Accepted (floating (ownOf f)) x) where
@@ -71,6 +72,7 @@ made-exact kind.I32 x a = refl
 made-exact kind.I64 x a = refl
 made-exact kind.F32 x a = ap (λ (b : ℕ). times (stepOf f32) (patternIn f32 b)) (float-bits language.binary32 x a)
 made-exact kind.F64 x a = ap (λ (b : ℕ). times (stepOf f64) (patternIn f64 b)) (float-bits language.binary64 x a)
+made-exact kind.F16 x a = refl
 
 -- the made value is that of its own bits: it lies in the kind's range
 natural-of : (k n : ℕ) → n < 2 ^ k → n ≡ n % 2 ^ k
@@ -95,6 +97,7 @@ made-of-bits kind.I32 x a = ap I32 (integer-of (2 ^ 31) (integerFor x) (signed-f
 made-of-bits kind.I64 x a = ap I64 (integer-of (2 ^ 63) (integerFor x) (signed-fits 64 x a))
 made-of-bits kind.F32 x a = ap f32Value (float-of language.binary32 x a)
 made-of-bits kind.F64 x a = ap f64Value (float-of language.binary64 x a)
+made-of-bits kind.F16 x a = ap F16 (natural-of 16 (patternFor f16 x) (pattern-small f16 x a))
 
 -- ---- a value of the kind that has the number
 
@@ -110,6 +113,7 @@ accepts kind.I32 b x t h = accepts-signed 32 (fromTwos (2 ^ 31) (b % 2 ^ 32)) x 
 accepts kind.I64 b x t h = accepts-signed 64 (fromTwos (2 ^ 63) (b % 2 ^ 64)) x (from-fits (2 ^ 63) (b % 2 ^ 64) (low-bits b 64)) h
 accepts kind.F32 b x t h = accepts-float f32 _ x t h
 accepts kind.F64 b x t h = accepts-float f64 _ x t h
+accepts kind.F16 b x t h = accepts-float f16 _ x t h
 
 -- ---- the five rules
 

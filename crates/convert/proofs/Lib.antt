@@ -6,6 +6,7 @@ pub mod Exactly
 pub mod Infinities
 pub mod Widening
 pub mod Returning
+pub mod FromHalf
 pub mod Taken
 pub mod Wholes
 pub mod Holds

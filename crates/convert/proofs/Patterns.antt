@@ -21,11 +21,11 @@ use Rattle.convert.proofs.Encode.{held-has}
 
 -- ---- the sign bit
 
-made-abs : (f : Format) (s : Bool) (x : ℕ) → x < signIn f → absIn f (withSign f s x) ≡ x
+pub made-abs : (f : Format) (s : Bool) (x : ℕ) → x < signIn f → absIn f (withSign f s x) ≡ x
 made-abs f true x h = abs-set (fractionOf f) (exponentOf f) (signIn f + x) (omega arith) ∙ omega arith
 made-abs f false x h = abs-clear (fractionOf f) (exponentOf f) x h
 
-made-sign : (f : Format) (s : Bool) (x : ℕ) → x < signIn f → negativeIn f (withSign f s x) ≡ s
+pub made-sign : (f : Format) (s : Bool) (x : ℕ) → x < signIn f → negativeIn f (withSign f s x) ≡ s
 made-sign f true x h = let l : signIn f ≤ signIn f + x = omega arith in le-leb _ _ l
 made-sign f false x h = lt-leb _ _ h
 

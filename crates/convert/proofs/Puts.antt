@@ -6,7 +6,7 @@ use native.Mathlib.Omega.{arith}
 use lib.Dec.{eqb, ltb}
 use lib.IntN.{ℤ, pos, negsuc}
 use lib.Signed.{mag}
-use Rattle.float.specs.Format.{Format, f32, f64, fractionOf, exponentOf, infIn}
+use Rattle.float.specs.Format.{Format, f16, f32, f64, fractionOf, exponentOf, infIn}
 use Rattle.float.specs.ClassMeaning.{largestIn}
 use Rattle.float.specs.Number.{Exact, notNumber, infinite, finite, signedOf}
 use Rattle.value.specs.declared.Kind.{Kind}
@@ -75,6 +75,7 @@ find-rules kind.I32 x = find-signed 32 x
 find-rules kind.I64 x = find-signed 64 x
 find-rules kind.F32 x = find-float f32 253 refl refl x
 find-rules kind.F64 x = find-float f64 2045 refl refl x
+find-rules kind.F16 x = find-float f16 29 refl refl x
 
 -- ---- the value made of it
 
@@ -90,6 +91,7 @@ make-is kind.I32 x = refl
 make-is kind.I64 x = refl
 make-is kind.F32 x = refl
 make-is kind.F64 x = refl
+make-is kind.F16 x = refl
 
 abbrev made : Kind → Bool × ℕ → Value
 made to w = makeIn to (w .0) (w .1)

@@ -7,7 +7,7 @@ use native.Mathlib.Nat.{mul-div-cancel, suc-mul}
 use native.Mathlib.Omega.{arith}
 use borrow.Author.Tests.{le-leb, lt-leb}
 use lib.IntN.{ℤ, pos, negsuc}
-use Rattle.float.specs.Format.{Format, f32, f64, fractionOf, exponentOf, absIn, infIn, negativeIn, signIn}
+use Rattle.float.specs.Format.{Format, f16, f32, f64, fractionOf, exponentOf, absIn, infIn, negativeIn, signIn}
 use Rattle.float.specs.Number.{Exact, notNumber, infinite, finite, isNone, times, none}
 use Rattle.float.specs.Number as float-number
 use Rattle.float.specs.Order.{patternIn}
@@ -111,6 +111,7 @@ made-again kind.I32 b t = ap (twosOf (2 ^ 32 - 1)) (integer-again (fromTwos (2 ^
 made-again kind.I64 b t = ap (twosOf (2 ^ 64 - 1)) (integer-again (fromTwos (2 ^ 63) (b % 2 ^ 64)))
 made-again kind.F32 b t = ap (λ (n : ℕ). bitsOf (f32Value n)) (pattern-again f32 (bitsOf (valueOf kind.F32 b)) t ∙ bits-made kind.F32 b)
 made-again kind.F64 b t = ap (λ (n : ℕ). bitsOf (f64Value n)) (pattern-again f64 (bitsOf (valueOf kind.F64 b)) t ∙ bits-made kind.F64 b)
+made-again kind.F16 b t = pattern-again f16 (b % 2 ^ 16) t
 
 integer-or-float : (form : Form) → (isInteger form ≡ true) ⊎ ((f : Format) × (form ≡ floating f))
 integer-or-float (unsigned k) = inl refl

@@ -11,7 +11,7 @@ use lib.Ieee.{size}
 use lib.Ieee.Digits.{size-le}
 use lib.Pow.{pow-pos, pow-add, pow-mono, high-ones}
 use lib.Signed.{mag}
-use Rattle.float.specs.Format.{Format, f32, f64, fractionOf, exponentOf, infOf, negativeOf, absOf, magAt, magOf}
+use Rattle.float.specs.Format.{Format, f16, f32, f64, fractionOf, exponentOf, infOf, negativeOf, absOf, magAt, magOf}
 use Rattle.float.specs.Number.{Exact, finite, isNone, times, none}
 use Rattle.float.specs.Order.{patternOf, patternIn}
 use Rattle.float.proofs.Naturals.{three-ways}
@@ -33,6 +33,7 @@ use Rattle.convert.proofs.Exactly.{none-is, into-gives, other-kind}
 -- ---- a number of few digits, in a float format
 
 abbrev stepBits : Format → ℕ
+stepBits f16 = 1050
 stepBits f32 = 925
 stepBits f64 = 0
 
@@ -42,6 +43,7 @@ topPlace f = fractionOf f + (2 ^ exponentOf f - 3) + stepBits f
 
 step-is : (f : Format) → stepOf f ≡ 2 ^ stepBits f
 unfolding stepOf
+step-is f16 = refl
 step-is f32 = refl
 step-is f64 = refl
 
@@ -85,6 +87,7 @@ Holds (floating f) x = (c : ℕ) × (x ≡ times (stepOf f) (patternIn f c))
 -- a whole number of few digits
 whole-accepted : (f : Format) (s : Bool) (n k : ℕ) → n < 2 ^ k → k ≤ suc (fractionOf f) → Accepted (floating f) (finite s (n * unit))
 unfolding unit
+whole-accepted f16 s n k h l = few-accepted f16 s n 1074 k h l (omega arith) (omega arith)
 whole-accepted f32 s n k h l = few-accepted f32 s n 1074 k h l (omega arith) (omega arith)
 whole-accepted f64 s n k h l = few-accepted f64 s n 1074 k h l (omega arith) (omega arith)
 
@@ -131,10 +134,15 @@ module _ (f g : Format) (longer : fractionOf f ≤ fractionOf g) (finer : stepBi
     | inr (inr n) ↦ absurd (true≢false (ap (λ (x : Exact). isNone (times (stepOf f) x)) (sym (pattern-nan p e c n)) ∙ t))
   ]
 
--- of the two formats, the one with the longer fraction has the smaller step and the wider range
+-- of two formats, the one with the longer fraction has the smaller step and the wider range
 longer-wider : (f g : Format) → fractionOf f ≤ fractionOf g → (stepBits g ≤ stepBits f) × (topPlace f ≤ topPlace g)
+longer-wider f16 f16 h = (omega arith, omega arith)
+longer-wider f16 f32 h = (omega arith, omega arith)
+longer-wider f16 f64 h = (omega arith, omega arith)
+longer-wider f32 f16 h = absurd (omega arith)
 longer-wider f32 f32 h = (omega arith, omega arith)
 longer-wider f32 f64 h = (omega arith, omega arith)
+longer-wider f64 f16 h = absurd (omega arith)
 longer-wider f64 f32 h = absurd (omega arith)
 longer-wider f64 f64 h = (omega arith, omega arith)
 

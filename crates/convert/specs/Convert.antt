@@ -5,13 +5,13 @@ use mathlib.Core.List.{List, [], _∷_}
 use lib.Dec.{eqb, ltb}
 use lib.Ieee.{size}
 use lib.IntN.{ℤ}
-use Rattle.float.specs.Format.{Format, f32, f64, fractionOf, signIn, infIn, magIn}
+use Rattle.float.specs.Format.{Format, f16, f32, f64, fractionOf, signIn, infIn, magIn}
 use Rattle.float.specs.ClassMeaning.{largestIn}
 use Rattle.float.specs.Number.{Exact, notNumber, infinite, finite, isNone, signedOf}
 use Rattle.value.specs.declared.Kind.{Kind}
 use Rattle.value.specs.declared.Kind.the-variants as kind
 use Rattle.value.specs.declared.Value.{Value}
-use Rattle.value.specs.declared.Value.the-variants.{U8, U16, U32, U64, I8, I16, I32, I64}
+use Rattle.value.specs.declared.Value.the-variants.{U8, U16, U32, U64, I8, I16, I32, I64, F16}
 use Rattle.value.specs.Kinds.{Form, unsigned, signed, floating, formOf, isInteger, kindOf, kindNumber}
 use Rattle.value.specs.Meaning.{exactOf, unit, stepOf, f32Value, f64Value}
 use Rattle.value.specs.Outcome.{Outcome, gives, refusalOf}
@@ -124,6 +124,7 @@ madeIn kind.I32 x = I32 (integerFor x)
 madeIn kind.I64 x = I64 (integerFor x)
 madeIn kind.F32 x = f32Value (patternFor f32 x)
 madeIn kind.F64 x = f64Value (patternFor f64 x)
+madeIn kind.F16 x = F16 (patternFor f16 x)
 
 -- ---- the conversion
 

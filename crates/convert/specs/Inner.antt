@@ -4,11 +4,11 @@ use Prim.Native.Nat.{ℕ, suc, _+_, _-_, _*_, _/_, _%_, _^_, _<_}
 use mathlib.Core.Bool.{Bool, not, cond}
 use lib.Dec.{eqb, ltb}
 use lib.Signed.{mag}
-use Rattle.float.specs.Format.{f32, f64, magOf, signIn}
+use Rattle.float.specs.Format.{f16, f32, f64, magOf, signIn}
 use Rattle.float.specs.Number.{Exact, notNumber, infinite, finite, signedOf}
 use Rattle.value.specs.declared.Kind.{Kind}
 use Rattle.value.specs.declared.Value.{Value}
-use Rattle.value.specs.declared.Value.the-variants.{U8, U16, U32, U64, I8, I16, I32, I64}
+use Rattle.value.specs.declared.Value.the-variants.{U8, U16, U32, U64, I8, I16, I32, I64, F16}
 use Rattle.value.specs.Kinds.{Form, unsigned, signed, floating, formOf}
 use Rattle.value.specs.Meaning.{unit, f32Value, f64Value}
 use Rattle.value.specs.Outcome.{Outcome, gives, refuses, refuseIf}
@@ -75,6 +75,7 @@ findIn kind.I32 x = wholeIn 0x8000_0000 0x7fff_ffff x
 findIn kind.I64 x = wholeIn 0x8000_0000_0000_0000 0x7fff_ffff_ffff_ffff x
 findIn kind.F32 x = floatIn 23 (2 ^ 925) 253 x
 findIn kind.F64 x = floatIn 52 1 2045 x
+findIn kind.F16 x = floatIn 10 (2 ^ 1050) 29 x
 
 abbrev pub FitsIn : Form → Bool → ℕ → Type 0
 FitsIn (unsigned k) s n = n < 2 ^ k
@@ -92,6 +93,7 @@ makeIn kind.I32 s n = I32 (signedOf s n)
 makeIn kind.I64 s n = I64 (signedOf s n)
 makeIn kind.F32 s n = f32Value (withSign f32 s n)
 makeIn kind.F64 s n = f64Value (withSign f64 s n)
+makeIn kind.F16 s n = F16 (withSign f16 s n)
 
 -- the value of a kind that has a number, or why there is none
 unfoldable pub intoOf : Kind → Exact → Outcome Value

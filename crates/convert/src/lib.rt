@@ -1,11 +1,14 @@
-// Exact conversion between the ten kinds: a number arrives unchanged, or is refused with the reason (docs/RULES.md: Exact conversion).
-// The source is taken apart into its number, the target puts it together: ten arms and ten arms serve a hundred pairs.
+// Exact conversion between the kinds: a number arrives unchanged, or is refused with the reason (docs/RULES.md: Exact conversion).
+// The source is taken apart into its number, the target puts it together: eleven arms and eleven arms serve 121 pairs. One pair has a way of its own:
+// f16 to f32 goes through the table of `half` where the exponent field is 0.
 mod digits;
+mod halves;
 mod sources;
 mod targets;
 
 ghost use mathlib.Core.Path.{_≡_};
 ghost use Rattle.convert.specs.Convert.{convertOf, convertedOutcome};
+use halves::half_to_f32;
 use sources::parts_of;
 use targets::put;
 use value::Kind;
@@ -42,8 +45,13 @@ pub fn convert(v: Value, to: Kind) -> Converted
     ensures { λ r. ⌜ convertedOutcome r ≡ convertOf v to ⌝ }
 {
     if value::kind_number(value::kind_of(v)) == value::kind_number(to) {
-        Converted::To(v)
-    } else {
-        put(parts_of(v), to)
+        return Converted::To(v);
+    }
+    match v {
+        Value::F16(b) => match to {
+            Kind::F32 => half_to_f32(b),
+            _ => put(parts_of(v), to),
+        },
+        _ => put(parts_of(v), to),
     }
 }

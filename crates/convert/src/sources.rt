@@ -1,4 +1,4 @@
-// A value taken apart into the number that it stands for. RULES.md: The ten kinds, Scaled numbers.
+// A value taken apart into the number that it stands for. RULES.md: The kinds, Scaled numbers.
 ghost use mathlib.Core.Path.{_≡_};
 ghost use Prim.Native.Nat.{_*_, _^_, _≤_};
 ghost use lib.IntN.{pos};
@@ -77,5 +77,12 @@ pub(crate) fn parts_of(v: Value) -> Parts
                 0,
             )
         }
+        Value::F16(b) => float_parts(
+            float::is_sign_negative_f16(b),
+            float::abs_f16(b) as u64,
+            10,
+            0x7c00,
+            1050,
+        ),
     }
 }

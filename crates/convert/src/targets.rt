@@ -104,7 +104,7 @@ fn signed(s: bool, n: u64) -> i64
     }
 }
 
-fn with_sign(s: bool, a: u64, sign: u64) -> u64
+pub(crate) fn with_sign(s: bool, a: u64, sign: u64) -> u64
     requires { ⌜ (a < sign) × (sign ≤ 2 ^ 63) ⌝ }
     ensures { λ r. ⌜ (r ≡ cond s (sign + a) a) × (r < 2 * sign) ⌝ }
 {
@@ -126,6 +126,7 @@ fn find(x: Parts, to: Kind) -> Fitted
         Kind::I64 => whole_in(x, 0x8000_0000_0000_0000, 0x7fff_ffff_ffff_ffff),
         Kind::F32 => float_in(x, 23, 925, 253),
         Kind::F64 => float_in(x, 52, 0, 2045),
+        Kind::F16 => float_in(x, 10, 1050, 29),
     }
 }
 
@@ -145,6 +146,7 @@ fn make(to: Kind, s: bool, n: u64) -> Value
         Kind::I64 => Value::I64(signed(s, n)),
         Kind::F32 => value::f32_value(with_sign(s, n, 0x8000_0000) as u32),
         Kind::F64 => value::f64_value(with_sign(s, n, 0x8000_0000_0000_0000)),
+        Kind::F16 => Value::F16(with_sign(s, n, 0x8000) as u16),
     }
 }
 

@@ -96,11 +96,11 @@ unnamed-in [] n h = omega arith
 unnamed-in (k ∷ ks) zero h = absurd (true≢false (sym h))
 unnamed-in (k ∷ ks) (suc n) h = let q = unnamed-in ks n h in omega arith
 
-unnamed-means : (n : ℕ) → unnamed n ≡ true → 10 ≤ n
+unnamed-means : (n : ℕ) → unnamed n ≡ true → 11 ≤ n
 unfolding unnamed
 unnamed-means n h = unnamed-in allKinds n h
 
-means-unnamed : (n : ℕ) → 10 ≤ n → unnamed n ≡ true
+means-unnamed : (n : ℕ) → 11 ≤ n → unnamed n ≡ true
 unfolding unnamed
 means-unnamed n h = rw (← past-all n h)
 

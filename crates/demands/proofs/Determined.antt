@@ -1,6 +1,11 @@
 -- No two outcomes: an answer of an enum is told by its outcome, and all else stands in the contract as it is.
-use mathlib.Core.Path.{_≡_, sym, _∙_}
-use mathlib.Core.List.{List}
+use mathlib.Core.Path.{_≡_, refl, sym, _∙_, subst}
+use mathlib.Core.List.{List, [], _∷_}
+use Prim.Native.Nat.{ℕ, suc, _<_}
+use native.Mathlib.Omega.{arith}
+use lib.ListN.{length, getD}
+use Rattle.float.proofs.Magnitude.{mag-injective}
+use Rattle.half.specs.Small.{IsOver, Small}
 use Rattle.value.specs.Outcome.{Outcome}
 use Rattle.cmp.specs.Compare.{comparedOutcome, testedOutcome}
 use Rattle.choose.specs.Choose.{chosenOutcome, rangedOutcome, sampledOutcome}
@@ -26,6 +31,26 @@ module _ {R A : Type 0} (outcomeOf : R → Outcome A) (injective : (r s : R) →
       let buffers : b ≡ c = h .1 ∙ sym (k .1) in
       cc
 
+-- ---- the table: no two patterns have one magnitude
+
+entries-same : (t u : List ℕ) → length t ≡ length u → ((m : ℕ) → m < length t → getD t m 0 ≡ getD u m 0) → t ≡ u
+entries-same [] [] q h = refl
+entries-same [] (y ∷ ys) q h = absurd (omega arith)
+entries-same (x ∷ xs) [] q h = absurd (omega arith)
+entries-same (x ∷ xs) (y ∷ ys) q h =
+    let first : x ≡ y = h 0 (omega arith) in
+    let rest : xs ≡ ys = entries-same xs ys (omega arith) (λ m l. h (suc m) (omega arith)) in
+    cc
+
+one-entry : (m : ℕ) → OnlyOne (IsOver m)
+one-entry m r s h k = mag-injective 23 r s (h ∙ sym k)
+
+one-table : OnlyOne Small
+unfolding Small
+one-table t u h k =
+    entries-same t u (h .0 ∙ sym (k .0))
+    (λ m l. let inside : m < 1024 = subst (λ (n : ℕ). m < n) (h .0) l in one-entry m (getD t m 0) (getD u m 0) (h .1 m inside) (k .1 m inside))
+
 pub determined : Determined
 determined = record {
   plain = λ spec r s h k. h ∙ sym k;
@@ -36,6 +61,8 @@ determined = record {
   sampled = by-outcome sampledOutcome sampled-injective;
   converted = by-outcome convertedOutcome converted-injective;
   held = by-outcome heldOutcome held-injective;
+  entry = one-entry;
+  table = one-table;
   rowed = λ spec exit. with-buffer rowedOutcome rowed-injective spec exit;
   written = λ spec exit. with-buffer writtenOutcome written-injective spec exit;
 }

@@ -10,7 +10,7 @@ use lib.IntN.{ℤ}
 use Rattle.float.specs.declared.Class.the-variants.{Zero, Subnormal, Normal, Infinite, Nan}
 use Rattle.float.specs.declared.Order.{Order}
 use Rattle.float.specs.declared.Order.the-variants.{Less, Greater, Unordered}
-use Rattle.float.specs.Format.{Format, f32, f64, fractionOf, exponentOf, signOf, negativeOf, infiniteOf, scaledOf, positionIn}
+use Rattle.float.specs.Format.{Format, f16, f32, f64, fractionOf, exponentOf, signOf, negativeOf, infiniteOf, scaledOf, positionIn}
 use Rattle.float.specs.Format as float-format
 use Rattle.float.specs.Number.{Number, number, infinityOf, times}
 use Rattle.float.specs.Number as float-number
@@ -24,7 +24,7 @@ use Rattle.float.proofs.Agreement.{nan-outside, zeros-ordered}
 use Rattle.float.proofs.Comparing.{compare-nan-left, compare-nan-right, pattern-infinite}
 use Rattle.float.proofs.Place.{patternAt, pattern-lt, position-pattern, position-injective, position-fits}
 use Rattle.value.specs.declared.Value.{Value}
-use Rattle.value.specs.declared.Value.the-variants.{U8, U16, U32, U64, I8, I16, I32, I64, F32, F64}
+use Rattle.value.specs.declared.Value.the-variants.{U8, U16, U32, U64, I8, I16, I32, I64, F32, F64, F16}
 use Rattle.value.specs.Kinds.{floating, formOf}
 use Rattle.value.specs.Meaning.{stepOf, bitsOf, exactOf, positionOf}
 use Rattle.value.specs.Outcome.{gives, refuses, mapped}
@@ -111,6 +111,7 @@ by-bits f (I32 z) q = clash cc
 by-bits f (I64 z) q = clash cc
 by-bits f (F32 x w) q = let g : f32 ≡ f = cc in subst (λ h. ByBits h (F32 x w)) g (refl, refl)
 by-bits f (F64 x w) q = let g : f64 ≡ f = cc in subst (λ h. ByBits h (F64 x w)) g (refl, refl)
+by-bits f (F16 b) q = let g : f16 ≡ f = cc in subst (λ h. ByBits h (F16 b)) g (refl, refl)
 
 module _ (f : Format) (a b : Value) (k : OneKind a b) (o : OfForm (floating f) a) where
   other : OfForm (floating f) b

@@ -30,6 +30,7 @@ value-low kind.I32 b = rw (mod-eq-of-lt (low-bits b 32))
 value-low kind.I64 b = rw (mod-eq-of-lt (low-bits b 64))
 value-low kind.F32 b = rw (mod-eq-of-lt (low-bits b 32))
 value-low kind.F64 b = rw (mod-eq-of-lt (low-bits b 64))
+value-low kind.F16 b = rw (mod-eq-of-lt (low-bits b 16))
 
 made-again : (k : Kind) (b : ℕ) → valueOf k (bitsOf (valueOf k b)) ≡ valueOf k b
 made-again k b = ap (valueOf k) (bits-made k b) ∙ value-low k b

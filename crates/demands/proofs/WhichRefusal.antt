@@ -5,18 +5,22 @@ use mathlib.Core.Bool.{Bool, true, false, not, _&&_, true≢false, and-true, and
 use Prim.Native.Nat.{ℕ, suc, _-_, _*_, _/_, _%_, _^_, _≤_, _<_}
 use native.Mathlib.Nat.{div-add-mod', mul-div-cancel, mul-mod-left}
 use native.Mathlib.Omega.{arith}
-use borrow.Author.Tests.{lt-ltb, le-ltb, eq-eqb, eqb-true, not-false}
+use mathlib.Core.Logic.{_↔_}
+use borrow.Author.Tests.{lt-ltb, le-ltb, ltb-true, ltb-false, eq-eqb, eqb-true, not-false}
 use lib.Dec.{T, ltb}
 use lib.IntN.{ℤ, pos, negsuc, natAbs}
 use lib.Pow.{pow-pos}
-use Rattle.float.specs.Number.{Exact, notNumber, infinite, finite, times, Number, number, numberOf, signedOf}
+use Rattle.float.specs.Format.{f16}
+use Rattle.float.specs.ClassMeaning.{largestIn}
+use Rattle.float.specs.Number.{Exact, notNumber, infinite, finite, times, Number, none, number, numberOf, signedOf}
 use Rattle.float.proofs.Magnitude.{abs-signed}
 use Rattle.float.proofs.Tests.{clash}
 use Rattle.value.specs.declared.Kind.{Kind}
+use Rattle.value.specs.declared.Kind.the-variants as kind
 use Rattle.value.specs.declared.Value.{Value}
 use Rattle.value.specs.Kinds.{Form, unsigned, signed, floating, formOf, isInteger, kindOf}
 use Rattle.value.specs.Meaning as value
-use Rattle.value.specs.Meaning.{wholeOf, unit, exactOf, positionOf}
+use Rattle.value.specs.Meaning.{wholeOf, unit, stepOf, exactOf, positionOf}
 use Rattle.value.specs.Outcome.{Outcome, gives, refuses, refuseIf}
 use Rattle.value.specs.Rules.{chain}
 use Rattle.value.proofs.Units.{unit-pos}
@@ -28,7 +32,7 @@ use Rattle.convert.proofs.Accepted.{whole-number}
 use Rattle.convert.proofs.Exactly.{other-kind}
 use Rattle.convert.proofs.Infinities.{refused-none}
 use Rattle.demands.specs.Conversion.{Other, HoldsNumberOf}
-use Rattle.demands.specs.WhichRefusal.{IsFinite, IsWhole, Beyond, Within, WhichRefusal}
+use Rattle.demands.specs.WhichRefusal.{IsFinite, IsWhole, Beyond, Within, WhichRefusal, TowardsF16}
 use Rattle.demands.proofs.Conversion.{other, of-conversion}
 use Rattle.demands.proofs.Beyond.{past-beyond, held-not-beyond, inside-not-beyond}
 
@@ -198,6 +202,50 @@ module _ (v : Value) (to : Kind) (o : Other v to) where
       by-tests false (n * unit) q (passes-third false (n * unit) (ap numberOf q) (formOf to) (λ i. (pos n, ap numberOf q))) h k
   integer-tests (negsuc n) q h k =
       by-tests true (suc n * unit) q (passes-third true (suc n * unit) (ap numberOf q) (formOf to) (λ i. (negsuc n, ap numberOf q))) h k
+
+-- ---- towards f16
+
+-- the largest f16 is 65504
+largest-half : largestIn f16 * stepOf f16 ≡ 65504 * unit
+unfolding unit stepOf
+largest-half = refl
+
+module _ (v : Value) (s : Bool) (m : ℕ) (o : Other v kind.F16) (q : exactOf v ≡ finite s m) where
+  past-largest : (65504 * unit < m → outOfForm (floating f16) s m ≡ true) × (m ≤ 65504 * unit → outOfForm (floating f16) s m ≡ false)
+  past-largest = (
+    (λ h. lt-ltb _ m (subst (λ (n : ℕ). n < m) (sym largest-half) h)),
+    λ h. le-ltb _ m (subst (λ (n : ℕ). m ≤ n) (sym largest-half) h),
+  )
+
+  no-fraction : third (floating f16) s m ≡ false
+  no-fraction = and-false (hasFraction (finite s m))
+
+  four-half : (convertOf v kind.F16 ≡ refuses 4 0) ↔ (65504 * unit < m)
+  four-half = (
+    (λ h.
+        let t = is-four (third (floating f16) s m) _ (notHeldIn (floating f16) m) (madeIn kind.F16 (finite s m)) (tested v kind.F16 o s m q 4 h) in
+        subst (λ (n : ℕ). n < m) largest-half (ltb-true _ _ (t .1))),
+    λ h. by-tests v kind.F16 o s m q no-fraction (past-largest .0 h) refl,
+  )
+
+  unheld : (t : Bool) → notHeldIn (floating f16) m ≡ t → m ≤ 65504 * unit → ((b : ℕ) → value.numberOf (value.valueOf kind.F16 b) ≡ value.numberOf v → ⊥)
+      → convertOf v kind.F16 ≡ refuses 5 0
+  unheld true e l no-pattern = by-tests v kind.F16 o s m q no-fraction (past-largest .1 l) e
+  unheld false e l no-pattern = let h = passed v kind.F16 o s m q no-fraction (past-largest .1 l) e in absurd (no-pattern (h .1 .0) (h .1 .1))
+
+  five-half : (convertOf v kind.F16 ≡ refuses 5 0)
+      ↔ ((m ≤ 65504 * unit) × ((b : ℕ) → value.numberOf (value.valueOf kind.F16 b) ≡ value.numberOf v → ⊥))
+  five-half = (
+    (λ h.
+        let t = is-five (third (floating f16) s m) (outOfForm (floating f16) s m) (notHeldIn (floating f16) m) (madeIn kind.F16 (finite s m))
+        (tested v kind.F16 o s m q 5 h) in
+        let some : value.numberOf v ≡ none → ⊥ = λ n. clash (cc (number-is v kind.F16 o s m q, n)) in
+        (subst (λ (n : ℕ). m ≤ n) largest-half (ltb-false _ _ (t .0)), refused-none v kind.F16 (other v kind.F16 o) 5 0 h some)),
+    λ h. unheld (notHeldIn (floating f16) m) refl (h .0) (h .1),
+  )
+
+pub towards-f16 : TowardsF16
+towards-f16 = record { four-to-f16 = four-half; five-to-f16 = five-half }
 
 -- ---- two integer kinds
 

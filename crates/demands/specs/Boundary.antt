@@ -75,10 +75,10 @@ pub record CountFirst : Type 0 where
   pub write-key : (ns bs : List ℕ) (room : ℕ) → badCount (length ns) ≡ true → keyLength ns bs room ≡ refuses 11 0
   pub read-key : (ns key : List ℕ) (room : ℕ) → badCount (length ns) ≡ true → recordRead ns key room ≡ refuses 11 0
 
--- its own tests in numbers: no kind has the number 10 or one above, and a kind of w bits has none from 2^w on
+-- its own tests in numbers: no kind has the number 11 or one above, and a kind of w bits has none from 2^w on
 pub record OwnTests : Type 0 where
   pub bad-count : (n : ℕ) → (badCount n ≡ true) ↔ NoneOrMany n
-  pub no-kind : (n : ℕ) → (unnamed n ≡ true) ↔ (10 ≤ n)
+  pub no-kind : (n : ℕ) → (unnamed n ≡ true) ↔ (11 ≤ n)
   pub too-wide : (s : Sample) → (tooWide s ≡ true) ↔ (2 ^ widthOf (kindFor (s .kind)) ≤ s .bits)
 
 -- ---- answers in numbers

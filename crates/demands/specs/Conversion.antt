@@ -2,13 +2,16 @@
 use Prim.Native.Nat.{ℕ, _*_, _%_, _^_, _<_}
 use mathlib.Core.Path.{_≡_}
 use mathlib.Core.Logic.{_↔_}
-use mathlib.Core.Bool.{Bool, true}
+use mathlib.Core.Bool.{Bool, true, false}
 use Rattle.float.specs.Format.{Format, magIn}
 use Rattle.float.specs.Number.{infinite, finite, notNumber, none}
+use Rattle.half.specs.Small.{IsOver}
 use Rattle.value.specs.declared.Kind.{Kind}
+use Rattle.value.specs.declared.Kind.the-variants as kind
 use Rattle.value.specs.declared.Value.{Value}
+use Rattle.value.specs.declared.Value.the-variants.{F16}
 use Rattle.value.specs.Kinds.{kindOf, floating, formOf, isInteger, widthOf}
-use Rattle.value.specs.Meaning.{exactOf, numberOf, valueOf, bitsOf, stepOf, InRange}
+use Rattle.value.specs.Meaning.{unit, exactOf, numberOf, f32Value, valueOf, bitsOf, stepOf, InRange}
 use Rattle.value.specs.Outcome.{gives, refuses}
 use Rattle.convert.specs.Convert.{convertOf, heldIn}
 use Rattle.convert.specs.Widening.{widens}
@@ -54,6 +57,9 @@ pub record Conversion : Type 0 where
   -- there and back is the same bits, but for a minus zero through an integer kind
   pub there-and-back : (v : Value) (to : Kind) → InRange v → Other v to → (isInteger (formOf to) ≡ true → exactOf v ≡ finite true 0 → ⊥)
       → (w : Value) → convertOf v to ≡ gives w → (u : Value) × (convertOf w (kindOf v) ≡ gives u) × (bitsOf u ≡ bitsOf v)
+  -- "the number at place m is exactly m over 2^24", and an f16 with the bits m goes to the entry
+  pub table-means : (m b : ℕ) → m < 1024 → IsOver m b
+      → ((k : ℕ) × (exactOf (f32Value b) ≡ finite false k) × (k * 2 ^ 24 ≡ m * unit)) × (convertOf (F16 m) kind.F32 ≡ gives (f32Value b))
   -- the value of a kind with some bits is of that kind and has these bits
   pub pattern-made : (k : Kind) (b : ℕ) → (kindOf (valueOf k b) ≡ k) × (bitsOf (valueOf k b) ≡ b % 2 ^ widthOf k)
   -- a value in range is told by its kind and its bits: the value made of them has the same bits and stands for the same

@@ -2,7 +2,7 @@
 use Rattle.float.specs.Format.{Format}
 use Rattle.demands.specs.Floats.{Floats, Values}
 use Rattle.demands.specs.Conversion.{Conversion}
-use Rattle.demands.specs.WhichRefusal.{WhichRefusal}
+use Rattle.demands.specs.WhichRefusal.{WhichRefusal, TowardsF16}
 use Rattle.demands.specs.Choosing.{Records, Choosing}
 use Rattle.demands.specs.Rows.{Rows}
 use Rattle.demands.specs.LentRows.{LentRows}
@@ -13,6 +13,7 @@ pub record Demand2 : Type 1 where
   pub values : Values
   pub conversion : Conversion
   pub which-refusal : WhichRefusal
+  pub towards-f16 : TowardsF16
   pub records : Records
   pub choosing : Choosing
   pub rows : Rows

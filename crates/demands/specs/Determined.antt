@@ -5,6 +5,7 @@ use mathlib.Core.Bool.{Bool}
 use mathlib.Core.List.{List}
 use lib.Ieee.{Float}
 use Rattle.float.specs.declared.Order.{Order}
+use Rattle.half.specs.Small.{IsOver, Small}
 use Rattle.value.specs.declared.Value.{Value}
 use Rattle.value.specs.Outcome.{Outcome, Success}
 use Rattle.cmp.specs.declared.Compared.{Compared}
@@ -40,6 +41,9 @@ pub record Determined : Type 1 where
   pub sampled : (spec : Outcome Float) → OnlyOne (λ (r : Sampled). sampledOutcome r ≡ spec)
   pub converted : (spec : Outcome Value) → OnlyOne (λ (r : Converted). convertedOutcome r ≡ spec)
   pub held : (spec : Outcome Value) → OnlyOne (λ (r : Held). heldOutcome r ≡ spec)
+  -- an entry of the table of f16 magnitudes, and the whole table
+  pub entry : (m : ℕ) → OnlyOne (IsOver m)
+  pub table : OnlyOne Small
   -- an answer, and beside it `now (b .exit) ≡ exit` of the lent buffer
   pub rowed : {B : Type 0} (spec : Outcome Success) (exit : List B) → OnlyOne (λ (r : Rowed × List B). (rowedOutcome (r .0) ≡ spec) × (r .1 ≡ exit))
   pub written : (spec : Outcome ℕ) (exit : List ℕ) → OnlyOne (λ (r : Written × List ℕ). (writtenOutcome (r .0) ≡ spec) × (r .1 ≡ exit))

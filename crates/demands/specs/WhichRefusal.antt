@@ -1,18 +1,19 @@
 -- Which of the refusals 3, 4 and 5 a conversion gives, by the numbers alone. RULES.md: Refusals, Exact conversion.
-use Prim.Native.Nat.{ℕ, _-_, _^_, _<_}
+use Prim.Native.Nat.{ℕ, _-_, _*_, _^_, _≤_, _<_}
 use mathlib.Core.Path.{_≡_}
 use mathlib.Core.Logic.{_↔_, _⊎_}
-use mathlib.Core.Bool.{true, false}
+use mathlib.Core.Bool.{Bool, true, false}
 use lib.IntN.{ℤ, pos, negsuc}
 use Rattle.float.specs.declared.Order.{Order}
 use Rattle.float.specs.declared.Order.the-variants.{Less, Greater}
-use Rattle.float.specs.Number.{times, Number, number}
+use Rattle.float.specs.Number.{finite, times, Number, number}
 use Rattle.float.specs.Number as float-number
 use Rattle.float.specs.Order.{orderOf}
 use Rattle.value.specs.declared.Kind.{Kind}
+use Rattle.value.specs.declared.Kind.the-variants as kind
 use Rattle.value.specs.declared.Value.{Value}
 use Rattle.value.specs.Kinds.{Form, unsigned, signed, floating, formOf, isInteger, kindOf}
-use Rattle.value.specs.Meaning.{fitsSigned, wholeOf, unit, numberOf, positionOf, valueOf}
+use Rattle.value.specs.Meaning.{fitsSigned, wholeOf, unit, exactOf, numberOf, positionOf, valueOf}
 use Rattle.value.specs.Outcome.{gives, refuses}
 use Rattle.convert.specs.Convert.{convertOf}
 use Rattle.demands.specs.Conversion.{Other, HoldsNumberOf}
@@ -61,3 +62,13 @@ pub record WhichRefusal : Type 0 where
       → Within (formOf to) (positionOf v) → (w : Value) × (convertOf v to ≡ gives w)
   pub outside-four : (v : Value) (to : Kind) → Other v to → isInteger (formOf (kindOf v)) ≡ true → isInteger (formOf to) ≡ true
       → (Within (formOf to) (positionOf v) → ⊥) → convertOf v to ≡ refuses 4 0
+
+-- ---- towards f16, from every kind
+
+-- a finite number of either sign, m units of 2^-1074
+pub record TowardsF16 : Type 0 where
+  -- 4: "a finite magnitude above 65504"
+  pub four-to-f16 : (v : Value) (s : Bool) (m : ℕ) → Other v kind.F16 → exactOf v ≡ finite s m → (convertOf v kind.F16 ≡ refuses 4 0) ↔ (65504 * unit < m)
+  -- 5: "any other number it lacks"
+  pub five-to-f16 : (v : Value) (s : Bool) (m : ℕ) → Other v kind.F16 → exactOf v ≡ finite s m
+      → (convertOf v kind.F16 ≡ refuses 5 0) ↔ ((m ≤ 65504 * unit) × ((b : ℕ) → numberOf (valueOf kind.F16 b) ≡ numberOf v → ⊥))

@@ -2,9 +2,10 @@
 use Prim.Native.Nat.{_+_, _^_, _≤_, _<_}
 use native.Mathlib.Omega.{arith}
 use lib.Pow.{pow-pos, pow-lt}
-use Rattle.float.specs.Format.{Format, f32, f64, fractionOf, exponentOf, infIn, signIn}
+use Rattle.float.specs.Format.{Format, f16, f32, f64, fractionOf, exponentOf, infIn, signIn}
 
 pub two-or-more : (f : Format) → 2 ≤ exponentOf f
+two-or-more f16 = omega arith
 two-or-more f32 = omega arith
 two-or-more f64 = omega arith
 

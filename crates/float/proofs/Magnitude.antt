@@ -1,6 +1,6 @@
 -- The sign, abs and the scaled magnitude of a pattern, over (p, e). The scaled magnitude strictly rises with abs:
 -- within one exponent the fraction decides, and a higher exponent at least doubles what the lower one can reach.
-use mathlib.Core.Path.{_≡_, refl, _∙_, ap, subst, subst⁻¹}
+use mathlib.Core.Path.{_≡_, refl, sym, _∙_, ap, subst, subst⁻¹}
 use mathlib.Core.Bool.{Bool, true, false}
 use mathlib.Core.Logic.{inl, inr}
 use Prim.Native.Nat.{ℕ, zero, suc, _+_, _-_, _*_, _/_, _%_, _^_, _≤_, _<_}
@@ -96,6 +96,10 @@ mag-reflects p x y h = elim (lt-or-ge y x) [
   | inl l ↦ absurd (omega (arith, mag-rises p y x l))
   | inr g ↦ g
 ]
+
+-- so no two have one magnitude
+pub mag-injective : (p x y : ℕ) → magOf p x ≡ magOf p y → x ≡ y
+mag-injective p x y q = omega (arith, mag-reflects p x y (le-of-eq q), mag-reflects p y x (le-of-eq (sym q)))
 
 -- below 2 ^ p the exponent field is 0
 pub mag-small : (p x : ℕ) → x < 2 ^ p → magOf p x ≡ x

@@ -77,15 +77,17 @@ positionOf p e b = cond (negativeOf p e b) (negsuc (absOf p e b)) (pos (absOf p 
 
 -- a format is one value
 pub data Format : Type 0 where
-  f32 f64 : Format
+  f16 f32 f64 : Format
 
 -- its p
 abbrev pub fractionOf : Format → ℕ
+fractionOf f16 = 10
 fractionOf f32 = 23
 fractionOf f64 = 52
 
 -- its e
 abbrev pub exponentOf : Format → ℕ
+exponentOf f16 = 5
 exponentOf f32 = 8
 exponentOf f64 = 11
 

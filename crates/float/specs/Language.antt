@@ -1,4 +1,4 @@
--- The language's own floats are of two of the formats here. RULES.md: The ten kinds.
+-- The language's own floats are of two of the formats here; it has no f16. RULES.md: The kinds.
 use lib.Ieee as language
 use Rattle.float.specs.Format.{Format, f32, f64}
 

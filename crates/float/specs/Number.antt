@@ -1,4 +1,4 @@
--- What a sample stands for, whatever its kind. RULES.md: The ten kinds, Scaled numbers.
+-- What a sample stands for, whatever its kind. RULES.md: The kinds, Scaled numbers.
 use Prim.Native.Nat.{ℕ, _*_}
 use mathlib.Core.Bool.{Bool, true, false}
 use lib.IntN.{ℤ, pos, negℤ}

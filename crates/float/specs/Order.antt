@@ -39,7 +39,7 @@ orderOf (number m) minusInfinity = Greater
 orderOf (number m) plusInfinity = Less
 orderOf (number m) (number n) = orderZ m n
 
--- what a pattern stands for, in units of its format's smallest step: 2^-149 for f32, 2^-1074 for f64
+-- what a pattern stands for, in units of its format's smallest step: 2^-24 for f16, 2^-149 for f32, 2^-1074 for f64
 unfoldable pub patternOf : ℕ → ℕ → ℕ → Exact
 patternOf p e b =
     cond (nanOf p e b) notNumber

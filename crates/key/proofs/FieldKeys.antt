@@ -1,12 +1,12 @@
 -- One field: its key number is in range, orders as its value, and is read back as the value made normal; and every canonical number is the key of the
 -- value read.
--- A law for each of the three forms, over the width; the ten kinds are its instances.
+-- A law for each of the three forms, over the width; the kinds are its instances.
 use mathlib.Core.Path.{_≡_, refl, sym, ap, _∙_, subst}
 use mathlib.Core.Bool.{false}
 use Prim.Native.Nat.{ℕ, _*_, _%_, _-_, _^_, _<_}
 use native.Mathlib.Nat.{mod-eq-of-lt}
 use lib.IntN.{ℤ, pos, negsuc}
-use Rattle.float.specs.Format.{Format, f32, f64, signIn}
+use Rattle.float.specs.Format.{Format, f16, f32, f64, signIn}
 use Rattle.float.specs.Number.{isNone, times}
 use Rattle.float.specs.Number as float-number
 use Rattle.float.specs.Order.{orderN, orderOf}
@@ -14,7 +14,7 @@ use Rattle.float.proofs.Tests.{clash}
 use Rattle.value.specs.declared.Kind.{Kind}
 use Rattle.value.specs.declared.Kind.the-variants as kind
 use Rattle.value.specs.declared.Value.{Value}
-use Rattle.value.specs.declared.Value.the-variants.{U8, U16, U32, U64, I8, I16, I32, I64, F32, F64}
+use Rattle.value.specs.declared.Value.the-variants.{U8, U16, U32, U64, I8, I16, I32, I64, F32, F64, F16}
 use Rattle.value.specs.Kinds.{signed, floating, formOf, kindOf, widthOf, bytesOf}
 use Rattle.value.specs.Meaning.{Content, natural, integer, real, contentOf, fitsSigned, wholeOf, unit, exactIn, bitsOf, valueOf}
 use Rattle.cmp.specs.Compare.{valueOrder}
@@ -90,6 +90,7 @@ field-read (I32 z) h = record { below = shifted-below (2 ^ 31) z (h .in-range); 
 field-read (I64 z) h = record { below = shifted-below (2 ^ 63) z (h .in-range); canonical = refl; value-is = ap I64 (shifted-read (2 ^ 63) z (h .in-range)) }
 field-read (F32 x w) h = float-reads (F32 x w) h f32 _ refl refl refl
 field-read (F64 x w) h = float-reads (F64 x w) h f64 _ refl refl refl
+field-read (F16 b) h = float-reads (F16 b) h f16 b refl refl refl
 
 -- ---- writing the value of a key number
 
@@ -134,3 +135,4 @@ field-write kind.I32 n h c = signed-write kind.I32 (bitsFrom (signed 32) n) 32 (
 field-write kind.I64 n h c = signed-write kind.I64 (bitsFrom (signed 64) n) 64 (read-shifted (2 ^ 63) n h .1) refl
 field-write kind.F32 n h c = float-write kind.F32 f32 n h c refl refl
 field-write kind.F64 n h c = float-write kind.F64 f64 n h c refl refl
+field-write kind.F16 n h c = float-write kind.F16 f16 n h c refl refl

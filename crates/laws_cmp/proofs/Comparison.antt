@@ -1,4 +1,4 @@
--- The comparison of values is a partial order on all ten kinds at once: it goes by the number, and numbers are so ordered.
+-- The comparison of values is a partial order on all kinds at once: it goes by the number, and numbers are so ordered.
 use Rattle.float.specs.declared.Order.the-variants.{Less, Equal, Greater}
 use Rattle.cmp.specs.Compare.{compareOf, eqOf}
 use Rattle.cmp.proofs.Orders.{turned-order, less-transitive, equal-transitive}

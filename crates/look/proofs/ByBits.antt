@@ -13,7 +13,7 @@ use lib.IntN.{ℤ, pos, negsuc}
 use lib.Ieee.{binary32, binary64}
 use types.Run.{OneOf}
 use denote.Enum.Declared.{tagOf}
-use Rattle.float.specs.Format.{Format, f32, f64, fractionOf, exponentOf, signOf, infOf, negativeOf, absOf, infiniteOf, magOf, infIn, infiniteIn, signIn}
+use Rattle.float.specs.Format.{Format, f16, f32, f64, fractionOf, exponentOf, signOf, infOf, negativeOf, absOf, infiniteOf, magOf, infIn, infiniteIn, signIn}
 use Rattle.float.specs.Number as exact
 use Rattle.float.specs.Order.{patternOf}
 use Rattle.float.proofs.Naturals.{lt-or-ge, three-ways}
@@ -21,7 +21,7 @@ use Rattle.float.proofs.Magnitude.{abs-clear, abs-set, mag-rises, mag-zero}
 use Rattle.float.proofs.Formats.{inf-range}
 use Rattle.float.proofs.Comparing.{times-rises, pattern-nan, pattern-infinite, pattern-finite}
 use Rattle.value.specs.declared.Value.{Value}
-use Rattle.value.specs.declared.Value.the-variants.{U8, U16, U32, U64, I8, I16, I32, I64, F32, F64}
+use Rattle.value.specs.declared.Value.the-variants.{U8, U16, U32, U64, I8, I16, I32, I64, F32, F64, F16}
 use Rattle.value.specs.Kinds.{kindOf, allKinds, Form, unsigned, signed, floating, formOf, isInteger}
 use Rattle.value.specs.Meaning.{real, bitsOf, floatBits, exactIn, unit, stepOf, wholeOf}
 use Rattle.value.proofs.Value.{the-type}
@@ -128,6 +128,7 @@ counted-by-bits (I32 z) = neither z
 counted-by-bits (I64 z) = neither z
 counted-by-bits (F32 x w) = by-format f32 (floatBits binary32 x w)
 counted-by-bits (F64 x w) = by-format f64 (floatBits binary64 x w)
+counted-by-bits (F16 b) = by-format f16 b
 
 -- ---- the arm of the integer kinds: they have no such bits
 

@@ -4,7 +4,7 @@ use mathlib.Core.Bool.{Bool, false, not}
 use mathlib.Core.Path.{_≡_}
 use mathlib.Core.List.{List, [], _∷_}
 use lib.Dec.{eqb}
-use Rattle.float.specs.Format.{f32, f64}
+use Rattle.float.specs.Format.{f16, f32, f64}
 use lib.ListN.{length, getD}
 use Rattle.value.specs.declared.Kind.{Kind}
 use Rattle.value.specs.declared.Value.{Value}
@@ -56,6 +56,7 @@ LooksDecide =
 abbrev pub infinitiesIn : Form → List ℕ
 infinitiesIn (unsigned n) = []
 infinitiesIn (signed n) = []
+infinitiesIn (floating f16) = 0x7c00 ∷ 0xfc00 ∷ []
 infinitiesIn (floating f32) = 0x7f80_0000 ∷ 0xff80_0000 ∷ []
 infinitiesIn (floating f64) = 0x7ff0_0000_0000_0000 ∷ 0xfff0_0000_0000_0000 ∷ []
 
@@ -63,6 +64,7 @@ infinitiesIn (floating f64) = 0x7ff0_0000_0000_0000 ∷ 0xfff0_0000_0000_0000 �
 abbrev pub minusZerosIn : Form → List ℕ
 minusZerosIn (unsigned n) = []
 minusZerosIn (signed n) = []
+minusZerosIn (floating f16) = 0x8000 ∷ []
 minusZerosIn (floating f32) = 0x8000_0000 ∷ []
 minusZerosIn (floating f64) = 0x8000_0000_0000_0000 ∷ []
 

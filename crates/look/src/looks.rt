@@ -11,6 +11,7 @@ use cmp::Tested;
 use cmp::gt;
 use cmp::lt;
 use cmp::ne;
+use float::is_infinite_f16;
 use float::is_infinite_f32;
 use float::is_infinite_f64;
 use row::Rowed;
@@ -47,6 +48,7 @@ fn is_infinite(v: Value) -> bool
     match v {
         Value::F32(x, word) => is_infinite_f32(bits_f32(x, word)),
         Value::F64(x, word) => is_infinite_f64(bits_f64(x, word)),
+        Value::F16(b) => is_infinite_f16(b),
         _ => false,
     }
 }
@@ -57,6 +59,7 @@ fn is_minus_zero(v: Value) -> bool
     match v {
         Value::F32(x, word) => bits_f32(x, word) == 0x8000_0000,
         Value::F64(x, word) => bits_f64(x, word) == 0x8000_0000_0000_0000,
+        Value::F16(b) => b == 0x8000,
         _ => false,
     }
 }

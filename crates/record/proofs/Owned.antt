@@ -57,6 +57,7 @@ kind-stands kind.I32 = (_, (_, (refl, (tt, (refl, tt)))))
 kind-stands kind.I64 = (_, (_, (refl, (tt, (refl, tt)))))
 kind-stands kind.F32 = (_, (_, (refl, (tt, (refl, tt)))))
 kind-stands kind.F64 = (_, (_, (refl, (tt, (refl, tt)))))
+kind-stands kind.F16 = (_, (_, (refl, (tt, (refl, tt)))))
 
 place-stands : (p : Place) → Stands place-type.the-row p
 place-stands p = (_, ((_, tt), (refl, (kind-stands (p .kind) .1, tt))))

@@ -7,7 +7,7 @@ use lib.ListN.{length}
 use lib.Ieee.{Float, nan}
 use Rattle.value.specs.declared.Kind.the-variants as kind
 use Rattle.value.specs.declared.Value.{Value}
-use Rattle.value.specs.declared.Value.the-variants.{U8, U16, U32, U64, I8, I16, I32, I64, F32, F64}
+use Rattle.value.specs.declared.Value.the-variants.{U8, U16, U32, U64, I8, I16, I32, I64, F32, F64, F16}
 use Rattle.value.specs.Meaning.{bitsOf}
 use Rattle.value.specs.Outcome.{Outcome, mapped, Success, lentAfter}
 use Rattle.value.specs.Rules.{Rule, rule, chain}
@@ -28,6 +28,7 @@ floatOf (I32 z) = nan
 floatOf (I64 z) = nan
 floatOf (F32 x w) = x
 floatOf (F64 x w) = x
+floatOf (F16 b) = nan
 
 -- a sample of an unsigned kind is its bits, one of f32 its float
 unfoldable pub u8ToU16 : ℕ → Outcome ℕ

@@ -2,10 +2,11 @@
 use mathlib.Core.Path.{_≡_, refl, sym, _∙_, ap}
 use mathlib.Core.Bool.{Bool, true, false, _||_}
 use mathlib.Core.List.{[], _∷_}
-use Prim.Native.Nat.{ℕ, _^_, _<_}
+use Prim.Native.Nat.{ℕ, _^_, _≤_, _<_}
 use native.Mathlib.Omega.{arith}
-use borrow.Author.Tests.{eq-eqb, ne-eqb, leb-false}
-use Rattle.float.specs.Format.{Format, f32, f64}
+use borrow.Author.Tests.{eq-eqb, ne-eqb, leb-false, ltb-false}
+use lib.Dec.{ltb}
+use Rattle.float.specs.Format.{Format, f16, f32, f64}
 use Rattle.value.specs.declared.Kind.{Kind}
 use Rattle.value.specs.declared.Value.{Value}
 use Rattle.value.specs.Outcome.{Outcome, refuses, refuseIf}
@@ -67,10 +68,10 @@ module _ {A : Type 0} (next : Outcome A) where
     rule-past : r ≡ 0 → next ≡ refuseIf n 7 0 (refuseIf w 4 0 next)
     rule-past h = past n w (sym q ∙ h)
 
-narrow : (n w : Bool) → ruleFor n w ≡ 0 → w ≡ false
-narrow true w h = absurd (omega arith)
-narrow false true h = absurd (omega arith)
-narrow false false h = refl
+neither-rule : (n w : Bool) → ruleFor n w ≡ 0 → (n ≡ false) × (w ≡ false)
+neither-rule true w h = absurd (omega arith)
+neither-rule false true h = absurd (omega arith)
+neither-rule false false h = (refl, refl)
 
 -- ---- two samples, three, and a sample with a target
 
@@ -112,18 +113,33 @@ module _ (s : Sample) {r : ℕ} (q : r ≡ ruleFor (notFloat (s .kind)) (anyWide
     pub float-past : r ≡ 0 → next ≡ chain (floatRules s) next
     float-past h = rule-past next (notFloat (s .kind)) (anyWide (s ∷ [])) q h
 
-  pub float-narrow : r ≡ 0 → tooWide s ≡ false
+  pub float-narrow : r ≡ 0 → (notFloat (s .kind) ≡ false) × (tooWide s ≡ false)
   unfolding anyWide
-  float-narrow h = neither (tooWide s) false (narrow (notFloat (s .kind)) (anyWide (s ∷ [])) (sym q ∙ h)) .0
+  float-narrow h = let no = neither-rule (notFloat (s .kind)) (anyWide (s ∷ [])) (sym q ∙ h) in (no .0, neither (tooWide s) false (no .1) .0)
 
--- the bits of an f32 have 32 bits
+-- a float kind past the first two is the third
+pub third-float : (n : ℕ) → notFloat n ≡ false → (n ≡ 8 → ⊥) → (n ≡ 9 → ⊥) → n ≡ 10
+third-float n h d e =
+    let no = neither (ltb n 8) (ltb 10 n) h in
+    let low : 8 ≤ n = ltb-false n 8 (no .0) in
+    let high : n ≤ 10 = ltb-false 10 n (no .1) in
+    omega arith
+
+-- the bits of an f32 have 32 bits, those of an f16 16
 pub f32-bits : (s : Sample) → tooWide s ≡ false → s .kind ≡ 8 → s .bits < 2 ^ 32
 unfolding tooWide kindFor
 f32-bits s h q = leb-false (2 ^ 32) (s .bits) (rw q at h)
+
+pub f16-bits : (s : Sample) → tooWide s ≡ false → s .kind ≡ 10 → s .bits < 2 ^ 16
+unfolding tooWide kindFor
+f16-bits s h q = leb-false (2 ^ 16) (s .bits) (rw q at h)
 
 module _ {A : Type 0} (tell : Format → ℕ → A) (s : Sample) where
   pub is-f32 : s .kind ≡ 8 → {x : A} → x ≡ tell f32 (s .bits) → x ≡ ofFloat tell s
   is-f32 q e = rw (eq-eqb (s .kind) 8 q) e
 
-  pub is-f64 : (s .kind ≡ 8 → ⊥) → {x : A} → x ≡ tell f64 (s .bits) → x ≡ ofFloat tell s
-  is-f64 q e = rw (ne-eqb (s .kind) 8 q) e
+  pub is-f64 : (s .kind ≡ 8 → ⊥) → s .kind ≡ 9 → {x : A} → x ≡ tell f64 (s .bits) → x ≡ ofFloat tell s
+  is-f64 d q e = rw (ne-eqb (s .kind) 8 d, eq-eqb (s .kind) 9 q) e
+
+  pub is-f16 : (s .kind ≡ 8 → ⊥) → (s .kind ≡ 9 → ⊥) → {x : A} → x ≡ tell f16 (s .bits) → x ≡ ofFloat tell s
+  is-f16 d n e = rw (ne-eqb (s .kind) 8 d, ne-eqb (s .kind) 9 n) e

@@ -1,12 +1,12 @@
 -- The calls on single samples: rules 7 and 4, then the library's call on the values. RULES.md: The boundary.
 use Prim.Native.Nat.{ℕ}
-use mathlib.Core.Bool.{Bool, not, _||_, cond}
+use mathlib.Core.Bool.{Bool, _||_, cond}
 use mathlib.Core.List.{List, [], _∷_}
-use lib.Dec.{eqb}
+use lib.Dec.{eqb, ltb}
 use lib.IntN.{ℤ}
 use Rattle.float.specs.declared.Class.{Class}
 use Rattle.float.specs.declared.Order.{Order}
-use Rattle.float.specs.Format.{Format, f32, f64, classIn, positionIn}
+use Rattle.float.specs.Format.{Format, f16, f32, f64, classIn, positionIn}
 use Rattle.value.specs.declared.Value.{Value}
 use Rattle.value.specs.Outcome.{Outcome, gives}
 use Rattle.value.specs.Rules.{Rule, rule, chain}
@@ -56,15 +56,18 @@ kindRules v to = samplesRules (v .kind ∷ to ∷ []) (v ∷ [])
 unfoldable pub convertOf : Sample → ℕ → Outcome Value
 convertOf v to = chain (kindRules v to) (convert.convertOf (valueFor v) (kindFor to))
 
--- ---- patterns of the float kinds, 8 and 9
+-- ---- patterns of the float kinds, 8 to 10
 
 -- 7: no float kind
 abbrev pub notFloat : ℕ → Bool
-notFloat n = not (eqb n 8 || eqb n 9)
+notFloat n = ltb n 8 || ltb 10 n
 
 -- what a format tells of the bits
 abbrev pub ofFloat : {A : Type 0} → (Format → ℕ → A) → Sample → A
-ofFloat tell s = cond (eqb (s .kind) 8) (tell f32 (s .bits)) (tell f64 (s .bits))
+ofFloat tell s =
+    cond (eqb (s .kind) 8) (tell f32 (s .bits))
+    (cond (eqb (s .kind) 9) (tell f64 (s .bits))
+    (tell f16 (s .bits)))
 
 -- 7 for a kind that is no float, and 4
 abbrev pub floatRules : Sample → List Rule

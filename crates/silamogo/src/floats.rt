@@ -4,7 +4,7 @@ ghost use mathlib.Core.Bool.{false};
 ghost use Rattle.float.specs.Format.{classIn, positionIn};
 ghost use Rattle.silamogo.specs.Answer.{classedOf, positionedOf};
 ghost use Rattle.silamogo.specs.Samples.{tooWide};
-ghost use Rattle.silamogo.specs.Single.{ofFloat, classifyOf, samplePosition};
+ghost use Rattle.silamogo.specs.Single.{notFloat, ofFloat, classifyOf, samplePosition};
 use crate::Classed;
 use crate::Positioned;
 use crate::Sample;
@@ -13,24 +13,28 @@ use crate::samples::rule_of_float;
 use float::Class;
 
 fn class_of(s: Sample) -> Class
-    requires { ⌜ tooWide s ≡ false ⌝ }
+    requires { ⌜ (notFloat (s .kind) ≡ false) × (tooWide s ≡ false) ⌝ }
     ensures { λ r. ⌜ r ≡ ofFloat classIn s ⌝ }
 {
     if s.kind == 8 {
         float::class_f32(s.bits as u32)
-    } else {
+    } else if s.kind == 9 {
         float::class_f64(s.bits)
+    } else {
+        float::class_f16(s.bits as u16)
     }
 }
 
 fn position_of(s: Sample) -> i64
-    requires { ⌜ tooWide s ≡ false ⌝ }
+    requires { ⌜ (notFloat (s .kind) ≡ false) × (tooWide s ≡ false) ⌝ }
     ensures { λ r. ⌜ r ≡ ofFloat positionIn s ⌝ }
 {
     if s.kind == 8 {
         float::position_f32(s.bits as u32) as i64
-    } else {
+    } else if s.kind == 9 {
         float::position_f64(s.bits)
+    } else {
+        float::position_f16(s.bits as u16) as i64
     }
 }
 

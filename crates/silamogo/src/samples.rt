@@ -88,5 +88,5 @@ pub(crate) fn rule_of_target(v: Sample, to: u8) -> u8
 pub(crate) fn rule_of_float(s: Sample) -> u8
     ensures { λ r. ⌜ r ≡ ruleFor (notFloat (s .kind)) (anyWide (s ∷ [])) ⌝ }
 {
-    rule_for(!((s.kind == 8) | (s.kind == 9)), too_wide(s))
+    rule_for((s.kind < 8) | (10 < s.kind), too_wide(s))
 }

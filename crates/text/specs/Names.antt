@@ -6,7 +6,7 @@ use Rattle.value.specs.declared.KindFound.{KindFound}
 use Rattle.value.specs.Kinds.{kindAt, widthOf}
 use Rattle.text.specs.Words.{numberAmong}
 
--- u8 u16 u32 u64 i8 i16 i32 i64 f32 f64, in the order of the kinds
+-- u8 u16 u32 u64 i8 i16 i32 i64 f32 f64 f16, in the order of the kinds
 abbrev pub kindNames : List (List ℕ)
 kindNames =
     (117 ∷ 56 ∷ [])
@@ -19,6 +19,7 @@ kindNames =
     ∷ (105 ∷ 54 ∷ 52 ∷ [])
     ∷ (102 ∷ 51 ∷ 50 ∷ [])
     ∷ (102 ∷ 54 ∷ 52 ∷ [])
+    ∷ (102 ∷ 49 ∷ 54 ∷ [])
     ∷ []
 
 -- the kind at the place that the name has

@@ -1,4 +1,4 @@
-// The small words of case lines: digits and the numbers that they spell, words and lists of words, and the names of the ten kinds.
+// The small words of case lines: digits and the numbers that they spell, words and lists of words, and the names of the kinds.
 // Every call is total: what is no such digit, number or name has an answer of its own.
 mod digits;
 mod names;

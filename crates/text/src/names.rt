@@ -8,7 +8,7 @@ use value::kind_of_number;
 use value::width_of;
 
 // The names stand in the order of the kinds.
-pub const KIND_NAMES: [u8; 37] = *b"u8 u16 u32 u64 i8 i16 i32 i64 f32 f64";
+pub const KIND_NAMES: [u8; 41] = *b"u8 u16 u32 u64 i8 i16 i32 i64 f32 f64 f16";
 
 pub fn kind_named(s: &[u8]) -> KindFound
     ensures { λ r. ⌜ r ≡ kindNamed (now (s .entry)) ⌝ }

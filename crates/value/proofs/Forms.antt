@@ -4,11 +4,11 @@ use mathlib.Core.Logic.{_⊎_, inl, inr}
 use Prim.Native.Nat.{ℕ}
 use lib.Dec.{T}
 use lib.IntN.{ℤ, natAbs}
-use Rattle.float.specs.Format.{Format, f32, f64}
+use Rattle.float.specs.Format.{Format, f16, f32, f64}
 use Rattle.value.specs.declared.Kind.{Kind}
 use Rattle.value.specs.declared.Kind.the-variants as kind
 use Rattle.value.specs.declared.Value.{Value}
-use Rattle.value.specs.declared.Value.the-variants.{U8, U16, U32, U64, I8, I16, I32, I64, F32, F64}
+use Rattle.value.specs.declared.Value.the-variants.{U8, U16, U32, U64, I8, I16, I32, I64, F32, F64, F16}
 use Rattle.value.specs.Kinds.{kindOf, floating, formOf, isInteger}
 use Rattle.value.specs.Meaning.{real, contentOf, positionOf}
 
@@ -34,6 +34,7 @@ whole-or-floating (I32 z) = inl tt
 whole-or-floating (I64 z) = inl tt
 whole-or-floating (F32 x w) = inr (record { format = f32; pattern = _; content = refl; form = refl; not-whole = λ t. t })
 whole-or-floating (F64 x w) = inr (record { format = f64; pattern = _; content = refl; form = refl; not-whole = λ t. t })
+whole-or-floating (F16 b) = inr (record { format = f16; pattern = b; content = refl; form = refl; not-whole = λ t. t })
 
 -- the value of an integer kind with a number
 remade : Kind → ℤ → Value
@@ -47,6 +48,7 @@ remade kind.I32 z = I32 z
 remade kind.I64 z = I64 z
 remade kind.F32 z = I64 z
 remade kind.F64 z = I64 z
+remade kind.F16 z = I64 z
 
 remade-same : (v : Value) → Whole v → remade (kindOf v) (positionOf v) ≡ v
 unfolding remade
@@ -60,6 +62,7 @@ remade-same (I32 z) t = refl
 remade-same (I64 z) t = refl
 remade-same (F32 x w) t = absurd t
 remade-same (F64 x w) t = absurd t
+remade-same (F16 b) t = absurd t
 
 pub whole-same : (a b : Value) → Whole a → Whole b → kindOf a ≡ kindOf b → positionOf a ≡ positionOf b → a ≡ b
 whole-same a b s t k p = sym (remade-same a s) ∙ cc (k, p) ∙ remade-same b t

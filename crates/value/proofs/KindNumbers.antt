@@ -14,7 +14,7 @@ kind-past [] n h = refl
 kind-past (k ∷ ks) zero h = absurd (omega arith)
 kind-past (k ∷ ks) (suc n) h = kind-past ks n (omega arith)
 
-pub past-all : (n : ℕ) → 10 ≤ n → Nothing ≡ kindAt n
+pub past-all : (n : ℕ) → 11 ≤ n → Nothing ≡ kindAt n
 past-all n h = kind-past allKinds n h
 
 pub kind-back : (k : Kind) → kindAt (kindNumber k) ≡ Is k
@@ -28,6 +28,7 @@ kind-back kind.I32 = refl
 kind-back kind.I64 = refl
 kind-back kind.F32 = refl
 kind-back kind.F64 = refl
+kind-back kind.F16 = refl
 
 -- kinds with one number are one kind
 pub number-injective : (j k : Kind) → kindNumber j ≡ kindNumber k → j ≡ k

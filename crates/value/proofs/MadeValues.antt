@@ -26,6 +26,7 @@ bits-made kind.I32 b = twos-from (2 ^ 31) (b % 2 ^ 32) (low-bits b 32)
 bits-made kind.I64 b = twos-from (2 ^ 63) (b % 2 ^ 64) (low-bits b 64)
 bits-made kind.F32 b = bits-pattern binary32 (b % 2 ^ 32) (low-bits b 32)
 bits-made kind.F64 b = bits-pattern binary64 (b % 2 ^ 64) (low-bits b 64)
+bits-made kind.F16 b = refl
 
 pub value-bits : (k : Kind) (b : ℕ) → b < 2 ^ widthOf k → bitsOf (valueOf k b) ≡ b
 value-bits k b h = bits-made k b ∙ mod-eq-of-lt h
@@ -42,3 +43,4 @@ value-kind kind.I32 b = refl
 value-kind kind.I64 b = refl
 value-kind kind.F32 b = refl
 value-kind kind.F64 b = refl
+value-kind kind.F16 b = refl

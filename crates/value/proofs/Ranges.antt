@@ -17,12 +17,12 @@ use denote.Laws.{Is}
 use denote.Floats.{is-true}
 use denote.Enum.Declared.{row}
 use denote.Enum.Laws.{owed}
-use Rattle.float.specs.Format.{Format, f32, f64, fractionOf, exponentOf, infIn, nanIn, signIn}
+use Rattle.float.specs.Format.{Format, f16, f32, f64, fractionOf, exponentOf, infIn, nanIn, signIn}
 use Rattle.float.specs.Language.{ownOf}
 use Rattle.value.specs.declared.Kind.{Kind}
 use Rattle.value.specs.declared.Kind.the-variants as kind
 use Rattle.value.specs.declared.Value.{Value}
-use Rattle.value.specs.declared.Value.the-variants.{U8, U16, U32, U64, I8, I16, I32, I64, F32, F64}
+use Rattle.value.specs.declared.Value.the-variants.{U8, U16, U32, U64, I8, I16, I32, I64, F32, F64, F16}
 use Rattle.value.specs.Kinds.{Form, unsigned, signed, floating, formOf, widthIn, kindOf}
 use Rattle.value.specs.Meaning.{Content, natural, integer, real, contentOf, fitsSigned, floatBits, bitsIn, InRange, fromTwos, wordFor, valueOf}
 use Rattle.value.proofs.Widths.{Sized}
@@ -44,6 +44,7 @@ value-held (I32 z) vs p = below-fits (2 ^ 31) z (owed the-type the-laws (I32 z) 
 value-held (I64 z) vs p = below-fits (2 ^ 63) z (owed the-type the-laws (I64 z) vs p .0 .1)
 value-held (F32 x w) vs p = let o = owed the-type the-laws (F32 x w) vs p in (subst T (sym (o .0 .1)) tt, o .1 .0 .1)
 value-held (F64 x w) vs p = let o = owed the-type the-laws (F64 x w) vs p in (subst T (sym (o .0 .1)) tt, o .1 .0 .1)
+value-held (F16 b) vs p = owed the-type the-laws (F16 b) vs p .0 .1
 
 -- ---- and what is in range a program can hold
 
@@ -62,6 +63,7 @@ value-stands (I32 z) h = (_, (_, (refl, ((_, tt), (refl, ((refl, fits-below (2 ^
 value-stands (I64 z) h = (_, (_, (refl, ((_, tt), (refl, ((refl, fits-below (2 ^ 63) z h), tt))))))
 value-stands (F32 x w) h = (_, (_, (refl, ((_, (_, tt)), (refl, ((refl, is-true _ (h .0)), ((refl, h .1), tt)))))))
 value-stands (F64 x w) h = (_, (_, (refl, ((_, (_, tt)), (refl, ((refl, is-true _ (h .0)), ((refl, h .1), tt)))))))
+value-stands (F16 b) h = (_, (_, (refl, ((_, tt), (refl, ((refl, h), tt))))))
 
 -- ---- the form of a kind
 
@@ -81,6 +83,7 @@ content-form (I32 z) = refl
 content-form (I64 z) = refl
 content-form (F32 x w) = refl
 content-form (F64 x w) = refl
+content-form (F16 b) = refl
 
 -- ---- bits
 
@@ -92,6 +95,7 @@ twos-range k (pos n) s h = omega (arith, twice-half k s)
 twos-range k (negsuc n) s h = omega (arith, pow-pos k)
 
 quiet-range : (f : Format) → infIn f + 2 ^ (fractionOf f - 1) < 2 ^ widthIn (floating f)
+quiet-range f16 = lit< tt
 quiet-range f32 = lit< tt
 quiet-range f64 = lit< tt
 
@@ -126,6 +130,7 @@ content-ranged (I32 z) r = r
 content-ranged (I64 z) r = r
 content-ranged (F32 x w) r = float-range language.binary32 x w (r .0) (r .1)
 content-ranged (F64 x w) r = float-range language.binary64 x w (r .0) (r .1)
+content-ranged (F16 b) r = r
 
 pub bits-range : (x : Content) → Sized (formIn x) → Ranged x → bitsIn x < 2 ^ widthIn (formIn x)
 bits-range (natural k n) s r = r
@@ -156,3 +161,4 @@ made-in-range kind.I32 b = signed-small (2 ^ 31) (b % 2 ^ 32) (low-bits b 32)
 made-in-range kind.I64 b = signed-small (2 ^ 63) (b % 2 ^ 64) (low-bits b 64)
 made-in-range kind.F32 b = (ofBits-fits language.binary32 (b % 2 ^ 32), word-small f32 (b % 2 ^ 32) (low-bits b 32))
 made-in-range kind.F64 b = (ofBits-fits language.binary64 (b % 2 ^ 64), word-small f64 (b % 2 ^ 64) (low-bits b 64))
+made-in-range kind.F16 b = low-bits b 16

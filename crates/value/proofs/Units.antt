@@ -2,7 +2,7 @@
 use Prim.Native.Nat.{_<_}
 use native.Mathlib.Omega.{arith}
 use lib.Pow.{pow-pos}
-use Rattle.float.specs.Format.{Format, f32, f64}
+use Rattle.float.specs.Format.{Format, f16, f32, f64}
 use Rattle.value.specs.Meaning.{unit, stepOf}
 
 pub unit-pos : 0 < unit
@@ -11,5 +11,6 @@ unit-pos = pow-pos 1074
 
 pub step-pos : (f : Format) → 0 < stepOf f
 unfolding stepOf
+step-pos f16 = pow-pos 1050
 step-pos f32 = pow-pos 925
 step-pos f64 = omega arith

@@ -23,6 +23,7 @@ kind-sized kind.I32 = (lit≤ tt, lit≤ tt, refl)
 kind-sized kind.I64 = (lit≤ tt, lit≤ tt, refl)
 kind-sized kind.F32 = (lit≤ tt, lit≤ tt, refl)
 kind-sized kind.F64 = (lit≤ tt, lit≤ tt, refl)
+kind-sized kind.F16 = (lit≤ tt, lit≤ tt, refl)
 
 -- ---- a layout
 

@@ -1,12 +1,12 @@
--- The ten kinds: their list, their numbers, their forms. RULES.md: The ten kinds.
+-- The kinds: their list, their numbers, their forms. RULES.md: The kinds.
 use Prim.Native.Nat.{ℕ, zero, suc, _+_, _/_}
 use mathlib.Core.Bool.{Bool, true, false}
 use mathlib.Core.List.{List, [], _∷_}
-use Rattle.float.specs.Format.{Format, f32, f64, fractionOf, exponentOf}
+use Rattle.float.specs.Format.{Format, f16, f32, f64, fractionOf, exponentOf}
 use Rattle.value.specs.declared.Kind.{Kind}
 use Rattle.value.specs.declared.Kind.the-variants as kind
 use Rattle.value.specs.declared.Value.{Value}
-use Rattle.value.specs.declared.Value.the-variants.{U8, U16, U32, U64, I8, I16, I32, I64, F32, F64}
+use Rattle.value.specs.declared.Value.the-variants.{U8, U16, U32, U64, I8, I16, I32, I64, F32, F64, F16}
 use Rattle.value.specs.declared.Layout.{Layout}
 use Rattle.value.specs.declared.Layout.the-variants as layout
 use Rattle.value.specs.declared.KindFound.{KindFound}
@@ -24,6 +24,7 @@ kindOf (I32 z) = kind.I32
 kindOf (I64 z) = kind.I64
 kindOf (F32 x w) = kind.F32
 kindOf (F64 x w) = kind.F64
+kindOf (F16 b) = kind.F16
 
 -- a kind's place in the list of kinds
 abbrev pub kindNumber : Kind → ℕ
@@ -37,10 +38,11 @@ kindNumber kind.I32 = 6
 kindNumber kind.I64 = 7
 kindNumber kind.F32 = 8
 kindNumber kind.F64 = 9
+kindNumber kind.F16 = 10
 
 -- in the order of their numbers
 abbrev pub allKinds : List Kind
-allKinds = kind.U8 ∷ kind.U16 ∷ kind.U32 ∷ kind.U64 ∷ kind.I8 ∷ kind.I16 ∷ kind.I32 ∷ kind.I64 ∷ kind.F32 ∷ kind.F64 ∷ []
+allKinds = kind.U8 ∷ kind.U16 ∷ kind.U32 ∷ kind.U64 ∷ kind.I8 ∷ kind.I16 ∷ kind.I32 ∷ kind.I64 ∷ kind.F32 ∷ kind.F64 ∷ kind.F16 ∷ []
 
 -- the kind at a place of a list, if there is one
 abbrev pub kindIn : List Kind → ℕ → KindFound
@@ -69,6 +71,7 @@ formOf kind.I32 = signed 32
 formOf kind.I64 = signed 64
 formOf kind.F32 = floating f32
 formOf kind.F64 = floating f64
+formOf kind.F16 = floating f16
 
 -- the form of an integer kind
 abbrev pub isInteger : Form → Bool

@@ -1,5 +1,5 @@
 -- The definitions of this crate, in the order to read them.
--- the ten kinds: their list, their numbers, their three forms
+-- the kinds: their list, their numbers, their three forms
 pub mod Kinds
 -- what a value holds: its bits, its number, its position, and the value of a bit pattern
 pub mod Meaning

@@ -1,12 +1,12 @@
--- What a value holds, its bits and the number that it stands for. RULES.md: The ten kinds, Scaled numbers, Total order.
--- Ten kinds, three forms: each definition below goes by the form, so that what is said of it is said once.
+-- What a value holds, its bits and the number that it stands for. RULES.md: The kinds, Scaled numbers, Total order.
+-- Eleven kinds, three forms: each definition below goes by the form, so that what is said of it is said once.
 use Prim.Native.Nat.{ℕ, suc, _+_, _-_, _*_, _%_, _^_, _<_}
 use mathlib.Core.Bool.{false, true, cond}
 use lib.Dec.{T, ltb}
 use lib.IntN.{ℤ, pos, negsuc}
 use lib.Ieee.{Float, isNan, fits, toBits, ofBits}
 use lib.Ieee as language
-use Rattle.float.specs.Format.{Format, f32, f64, fractionOf, infIn, nanIn, positionIn}
+use Rattle.float.specs.Format.{Format, f16, f32, f64, fractionOf, infIn, nanIn, positionIn}
 use Rattle.float.specs.Language.{ownOf}
 use Rattle.float.specs.Number.{Exact, finite, times, Number}
 use Rattle.float.specs.Number as float-number
@@ -14,7 +14,7 @@ use Rattle.float.specs.Order.{patternIn}
 use Rattle.value.specs.declared.Kind.{Kind}
 use Rattle.value.specs.declared.Kind.the-variants as kind
 use Rattle.value.specs.declared.Value.{Value}
-use Rattle.value.specs.declared.Value.the-variants.{U8, U16, U32, U64, I8, I16, I32, I64, F32, F64}
+use Rattle.value.specs.declared.Value.the-variants.{U8, U16, U32, U64, I8, I16, I32, I64, F32, F64, F16}
 
 -- ---- the pattern of a float that the language holds as a float
 
@@ -46,6 +46,7 @@ contentOf (I32 z) = integer 32 z
 contentOf (I64 z) = integer 64 z
 contentOf (F32 x w) = real f32 (floatBits language.binary32 x w)
 contentOf (F64 x w) = real f64 (floatBits language.binary64 x w)
+contentOf (F16 b) = real f16 b
 
 -- -half ≤ z < half: the range of a signed kind
 abbrev pub fitsSigned : ℕ → ℤ → Type 0
@@ -64,6 +65,7 @@ InRange (I32 z) = fitsSigned (2 ^ 31) z
 InRange (I64 z) = fitsSigned (2 ^ 63) z
 InRange (F32 x w) = T (fits language.binary32 x) × (w < 2 ^ 32)
 InRange (F64 x w) = T (fits language.binary64 x) × (w < 2 ^ 64)
+InRange (F16 b) = b < 2 ^ 16
 
 -- ---- bits
 
@@ -93,8 +95,9 @@ wholeOf (negsuc n) = finite true (suc n)
 unfoldable pub unit : ℕ
 unit = 2 ^ 1074
 
--- a step of f32 is 2^-149, one of f64 is the unit
+-- a step of f16 is 2^-24, one of f32 is 2^-149, one of f64 is the unit
 unfoldable pub stepOf : Format → ℕ
+stepOf f16 = 2 ^ 1050
 stepOf f32 = 2 ^ 925
 stepOf f64 = 1
 
@@ -154,3 +157,4 @@ valueOf kind.I32 b = I32 (fromTwos (2 ^ 31) (b % 2 ^ 32))
 valueOf kind.I64 b = I64 (fromTwos (2 ^ 63) (b % 2 ^ 64))
 valueOf kind.F32 b = f32Value (b % 2 ^ 32)
 valueOf kind.F64 b = f64Value (b % 2 ^ 64)
+valueOf kind.F16 b = F16 (b % 2 ^ 16)

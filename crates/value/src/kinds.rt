@@ -1,4 +1,4 @@
-// Kinds, their numbers 0 to 9, and their forms. RULES.md: The ten kinds.
+// Kinds, their numbers 0 to 10, and their forms. RULES.md: The kinds.
 ghost use mathlib.Core.Path.{_≡_};
 ghost use Prim.Native.Nat.{_+_, _≤_, _<_};
 ghost use Rattle.value.specs.Kinds.{kindOf, kindNumber, kindAt, formOf, layoutFor, widthOf, bytesOf};
@@ -21,6 +21,7 @@ pub fn kind_of(v: Value) -> Kind
         Value::I64(_) => Kind::I64,
         Value::F32(_, _) => Kind::F32,
         Value::F64(_, _) => Kind::F64,
+        Value::F16(_) => Kind::F16,
     }
 }
 
@@ -38,6 +39,7 @@ pub fn kind_number(k: Kind) -> u8
         Kind::I64 => 7,
         Kind::F32 => 8,
         Kind::F64 => 9,
+        Kind::F16 => 10,
     }
 }
 
@@ -55,6 +57,7 @@ pub fn layout_of(k: Kind) -> Layout
         Kind::I64 => Layout::Signed(64),
         Kind::F32 => Layout::Float(32, 23),
         Kind::F64 => Layout::Float(64, 52),
+        Kind::F16 => Layout::Float(16, 10),
     }
 }
 
@@ -76,7 +79,7 @@ pub fn bytes_of(k: Kind) -> usize
     width_of(k) / 8
 }
 
-// The kinds of a form by rising width.
+// The kinds of a form in the order of their numbers.
 fn unsigned_kind(step: u8) -> Kind
     requires { ⌜ step < 4 ⌝ }
     ensures { λ r. ⌜ KindFound.Is r ≡ kindAt step ⌝ }
@@ -102,12 +105,13 @@ fn signed_kind(step: u8) -> Kind
 }
 
 fn float_kind(step: u8) -> Kind
-    requires { ⌜ step < 2 ⌝ }
+    requires { ⌜ step < 3 ⌝ }
     ensures { λ r. ⌜ KindFound.Is r ≡ kindAt (8 + step) ⌝ }
 {
     match step {
         0 => Kind::F32,
-        _ => Kind::F64,
+        1 => Kind::F64,
+        _ => Kind::F16,
     }
 }
 
@@ -117,7 +121,7 @@ pub fn kind_of_number(n: u8) -> KindFound
     match n {
         0..=3 => KindFound::Is(unsigned_kind(n)),
         4..=7 => KindFound::Is(signed_kind(n - 4)),
-        8..=9 => KindFound::Is(float_kind(n - 8)),
+        8..=10 => KindFound::Is(float_kind(n - 8)),
         _ => KindFound::Nothing,
     }
 }

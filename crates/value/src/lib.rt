@@ -1,5 +1,6 @@
-// Values of ten kinds, and what each stands for. A float kind carries a float; the pattern of a NaN, which no float can tell, stands beside it.
-// Every rule of the crates above speaks of a value's kind, its bits and its number (docs/RULES.md: The ten kinds), never of its parts.
+// Values of eleven kinds, and what each stands for. f32 and f64 carry a float; the pattern of a NaN, which no float can tell, stands beside it.
+// f16, for which the language has no type, carries its pattern.
+// Every rule of the crates above speaks of a value's kind, its bits and its number (docs/RULES.md: The kinds), never of its parts.
 mod kinds;
 mod patterns;
 
@@ -27,6 +28,7 @@ pub enum Kind {
     I64,
     F32,
     F64,
+    F16,
 }
 
 // A kind's form: how many bits, and of a float how many of them are the fraction.
@@ -36,7 +38,7 @@ pub enum Layout {
     Float(u8, u8),
 }
 
-// The second part of a float case is the pattern of its NaN: it is looked at only when the float is a NaN.
+// The second part of F32 and F64 is the pattern of a NaN: it is looked at only when the float is a NaN. F16 is its 16 bits.
 pub enum Value {
     U8(u8),
     U16(u16),
@@ -48,6 +50,7 @@ pub enum Value {
     I64(i64),
     F32(f32, u32),
     F64(f64, u64),
+    F16(u16),
 }
 
 // The number of the rule that refused, and the place of the first field or sample that it met.

@@ -1,4 +1,4 @@
-// From a value to its bits and back. RULES.md: The ten kinds.
+// From a value to its bits and back. RULES.md: The kinds.
 ghost use mathlib.Core.Path.{_≡_};
 ghost use Prim.Native.Nat.{_*_, _^_, _≤_, _<_};
 ghost use lib.Ieee.{binary32, binary64};
@@ -81,6 +81,7 @@ pub fn bits_of(v: Value) -> u64
         Value::I64(z) => twos(0xffff_ffff_ffff_ffff, z),
         Value::F32(x, word) => bits_f32(x, word) as u64,
         Value::F64(x, word) => bits_f64(x, word),
+        Value::F16(b) => b as u64,
     }
 }
 
@@ -111,5 +112,6 @@ pub fn value_of(k: Kind, bits: u64) -> Value
         Kind::I64 => Value::I64(from_twos(0x8000_0000_0000_0000, bits)),
         Kind::F32 => f32_value((bits % 0x1_0000_0000) as u32),
         Kind::F64 => f64_value(bits),
+        Kind::F16 => Value::F16((bits % 0x1_0000) as u16),
     }
 }

@@ -26,6 +26,7 @@ use crate::rows::RowU16;
 use choose::Chosen;
 use cmp::Tested;
 use convert::Converted;
+use float::class_f16;
 use float::class_f32;
 use float::class_f64;
 use text::after;
@@ -103,6 +104,7 @@ fn class_line(rest: &[u8]) -> Answer {
     match v {
         Value::F32(x, word) => Answer::Class(class_f32(bits_f32(x, word))),
         Value::F64(x, word) => Answer::Class(class_f64(bits_f64(x, word))),
+        Value::F16(b) => Answer::Class(class_f16(b)),
         _ => Answer::Malformed,
     }
 }

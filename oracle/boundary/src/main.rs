@@ -5,6 +5,8 @@
 mod calls;
 mod cases;
 mod every;
+mod every_f16;
+mod every_f32;
 mod lines;
 mod raw;
 #[rustfmt::skip]
@@ -15,6 +17,7 @@ use std::process::ExitCode;
 
 const USAGE: &str = "\
 usage: boundary every-f32 STEP     every STEPth pattern of f32, and all near the borders of exponents
+       boundary every-f16          every pattern of f16, and what is around its numbers in other kinds
        boundary cases SEED COUNT   random cases of every call, made from a seed
 ";
 
@@ -22,7 +25,10 @@ fn main() -> ExitCode {
     let arguments: Vec<String> = std::env::args().skip(1).collect();
     let arguments: Vec<&str> = arguments.iter().map(String::as_str).collect();
     let well = match arguments[..] {
-        ["every-f32", step] => number(step).filter(|&step| step > 0).map(every::every_f32),
+        ["every-f32", step] => number(step)
+            .filter(|&step| step > 0)
+            .map(every_f32::every_f32),
+        ["every-f16"] => Some(every_f16::every_f16()),
         ["cases", seed, count] => number(seed).zip(number(count)).map(cases::cases),
         _ => None,
     };

@@ -1,8 +1,10 @@
-//! Rust's own number type of each kind, and what the judges ask of it.
+//! Rust's own number type of each kind, and what the judges ask of it. For f16,
+//! which stable Rust lacks, `Half` stands in.
 
 use std::cmp::{max_by, min_by, Ordering};
 use std::num::FpCategory;
 
+use super::half::Half;
 use crate::value::Value;
 
 /// A number as Rust holds it without loss, whatever its kind.
@@ -45,6 +47,7 @@ macro_rules! native {
             Kind::I64 => $function::<i64>($($argument),*),
             Kind::F32 => $function::<f32>($($argument),*),
             Kind::F64 => $function::<f64>($($argument),*),
+            Kind::F16 => $function::<$crate::judge::half::Half>($($argument),*),
         }
     };
 }
@@ -182,4 +185,67 @@ integers! { u8 u16 u32 u64 i8 i16 i32 i64 }
 floats! {
     f32 u32;
     f64 u64;
+}
+
+/// By the f32 of the same number, which has the same orders.
+impl Native for Half {
+    fn of(value: Value) -> Half {
+        Half::from_bits(value.bits as u16)
+    }
+
+    fn bits(self) -> u64 {
+        self.to_bits().into()
+    }
+
+    fn class(self) -> Option<FpCategory> {
+        Some(self.classify())
+    }
+
+    fn total(self, other: Half) -> Ordering {
+        self.0.total_cmp(&other.0)
+    }
+
+    fn min(self, other: Half) -> Half {
+        Half(Native::min(self.0, other.0))
+    }
+
+    fn max(self, other: Half) -> Half {
+        Half(Native::max(self.0, other.0))
+    }
+
+    fn clamp(self, lower: Half, upper: Half) -> Half {
+        Half(Native::clamp(self.0, lower.0, upper.0))
+    }
+
+    fn number(self) -> Number {
+        self.0.number()
+    }
+
+    fn exact(number: Number) -> Result<Half, u32> {
+        let nearest = <Half as Native>::nearest(number);
+        match as_f64(number) {
+            x if f64::from(nearest.0) == x => Ok(nearest),
+            x if x.abs() > f64::from(Half::MAX) => Err(4),
+            _ => Err(5),
+        }
+    }
+
+    fn nearest(number: Number) -> Half {
+        Half::nearest(as_f64(number))
+    }
+
+    fn key(self) -> Vec<u8> {
+        // Minus zero and plus zero together are plus zero.
+        let bits = Half(self.0 + 0.0).to_bits();
+        let rank = if self.0 < 0.0 { !bits } else { 0x8000 + bits };
+        rank.to_be_bytes().to_vec()
+    }
+}
+
+/// Whole numbers that f64 lacks are far past the greatest of f16, and stay there.
+fn as_f64(number: Number) -> f64 {
+    match number {
+        Number::Integer(n) => n as f64,
+        Number::Float(x) => x,
+    }
 }

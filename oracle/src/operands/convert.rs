@@ -8,12 +8,22 @@ use crate::random::Random;
 use crate::value::{Kind, Value};
 
 /// Lengths in bits around those that kinds have room for.
-const LENGTHS: [u32; 12] = [1, 2, 8, 16, 23, 24, 25, 52, 53, 54, 63, 64];
+const LENGTHS: [u32; 15] = [1, 2, 8, 10, 11, 12, 16, 23, 24, 25, 52, 53, 54, 63, 64];
 
-/// A value and a kind, now and then its own, and often f64 to f32.
+/// From and to: pairs that have more ways than others.
+const OFTEN: [[Kind; 2]; 6] = [
+    [Kind::F64, Kind::F32],
+    [Kind::F64, Kind::F16],
+    [Kind::F32, Kind::F16],
+    [Kind::F16, Kind::F32],
+    [Kind::U16, Kind::F16],
+    [Kind::U64, Kind::F64],
+];
+
+/// A value and a kind, now and then its own.
 pub fn convert(random: &mut Random) -> String {
     let [from, to] = match random.below(8) {
-        0 => [Kind::F64, Kind::F32],
+        0 => random.pick(&OFTEN),
         1 => [random.pick(Kind::ALL); 2],
         _ => [any_kind(random), any_kind(random)],
     };
@@ -23,15 +33,22 @@ pub fn convert(random: &mut Random) -> String {
 /// A value of the first kind, often with a number that the second has or nearly
 /// has.
 pub fn source(random: &mut Random, from: Kind, to: Kind) -> Value {
-    if from.is_float() && random.one_in(12) {
+    if from.is_float() && random.one_in(8) {
         let sign = random.pick(&[0, from.top()]);
         return Value::new(from, sign | random.pick(&[0, from.infinity()]));
     }
+    let floats = from.is_float() && to.is_float();
+    let narrower = if floats && from.width() < to.width() {
+        from
+    } else {
+        to
+    };
     let near = match (random.below(8), from.is_float(), to.is_float()) {
         (0..2, ..) => return value(random, from),
-        (2..5, false, true) => odd_times_power(random, from),
-        (2..5, ..) => convert::number(number(random, to)),
-        (5..7, true, true) => end(random, to),
+        (2..4, false, true) => odd_times_power(random, from),
+        (4, false, true) => Number::Integer(random.pick(&edges::whole_numbers_of(to))),
+        (2..5, ..) => convert::number(number(random, narrower)),
+        (5..7, true, true) => end(random, narrower),
         (5, ..) => Number::Integer(random.below(1001) as i128 - 500),
         (6, ..) => Number::Integer(random.pick(&edges::whole_numbers())),
         _ => odd_times_power(random, from),
@@ -65,10 +82,12 @@ fn odd_times_power(random: &mut Random, kind: Kind) -> Number {
     if !kind.is_float() || random.one_in(3) {
         return Number::Integer(odd << random.below((width - length + 1) as usize));
     }
+    let end = random.pick(&Kind::floats());
+    let (bias, fraction) = (end.bias() as i32, end.fraction());
     let exponent = match random.below(5) {
         0..2 => random.below(20) as i32 - 16,
-        2 => random.below(5) as i32 + 126 - length as i32,
-        3 => random.below(40) as i32 - 155,
+        2 => random.below(5) as i32 + bias - 1 - length as i32,
+        3 => random.below(fraction as usize + 17) as i32 - bias - fraction as i32 - 5,
         _ => random.below(2046) as i32 - 1074,
     };
     Number::Float(odd as f64 * power_of_two(exponent))

@@ -101,5 +101,8 @@ mod tests {
         assert_eq!(position(Kind::F32, 0xffff_ffff), i32::MIN.into());
         assert_eq!(position(Kind::F64, u64::MAX >> 1), i64::MAX.into());
         assert_eq!(position(Kind::F64, u64::MAX), i64::MIN.into());
+        assert_eq!(position(Kind::F16, 0x7fff), 32767);
+        assert_eq!(position(Kind::F16, 0xffff), -32768);
+        assert_eq!(position(Kind::F16, 0x8000), -1);
     }
 }

@@ -73,6 +73,11 @@ mod tests {
         assert_eq!(scaled(0x007f_ffff), Whole::shifted(8388607, 0));
         assert_eq!(scaled(0x0080_0000), Whole::shifted(8388608, 0));
         assert_eq!(scaled(0x8000_0001), Whole::shifted(1, 0));
+        // The same of f16: 1023 and 1024, and the greatest, 65504 times 2^24.
+        let half = |bits| super::scaled(Value::new(Kind::F16, bits), 0);
+        assert_eq!(half(0x03ff), Whole::shifted(1023, 0));
+        assert_eq!(half(0x8400), Whole::shifted(1024, 0));
+        assert_eq!(half(0x7bff), Whole::shifted(65504, 24));
         for float in [1f32, -2.5, 1e-20, 3e38, 65535.0] {
             // At most 24 bits are significant, so no step rounds.
             let limbs = scaled(float.to_bits().into()).0.into_iter().rev();

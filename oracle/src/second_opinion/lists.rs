@@ -148,7 +148,7 @@ fn keys_of_single_fields() {
 #[test]
 fn lengths_of_keys() {
     for count in 0..=MOST_ITEMS {
-        for kind in [Kind::U8, Kind::I16, Kind::F32, Kind::U64] {
+        for kind in [Kind::U8, Kind::I16, Kind::F16, Kind::F32, Kind::U64] {
             for room in 0..=LONGEST_ROOM {
                 check_write(&vec![Value::new(kind, 0x1234_5678_9abc_def0); count], room);
             }

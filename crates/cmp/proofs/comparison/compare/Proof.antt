@@ -4,7 +4,7 @@ use borrow.Author.Needs.{needs}
 use lib.Dec.{lit≤}
 use lib.IntN.{pos}
 use mir.Syntax.{w8, w16, w32}
-use Rattle.float.specs.Format.{f32, f64}
+use Rattle.float.specs.Format.{f16, f32, f64}
 use Rattle.cmp.proofs.Numbers.{wide-order, narrow-order, narrow-fits}
 use Rattle.cmp.proofs.Answers.{compare-refused, compare-integers, compare-floats}
 use Rattle.cmp.proofs.comparison.compare.Statement.{statement}
@@ -113,6 +113,14 @@ returns-19 c =
 returns-20 : tie.Need-returns-20
 returns-20 c = c .kinds-differ10 .ensures ∙ compare-refused _ (c .before .before .before .a10 .given .1) (c .before .match11 .keys2)
 
+returns-21 : tie.Need-returns-21
+returns-21 c =
+    compare-floats (c .before .before .before .before .before .a11 .given .1) (c .before .before .b11 .given .1) refl f16 _ _ refl refl
+    (c .compare-f16 .ensures) refl refl
+
+returns-22 : tie.Need-returns-22
+returns-22 c = c .kinds-differ11 .ensures ∙ compare-refused _ (c .before .before .before .a11 .given .1) (c .before .match12 .keys2)
+
 pub compare-spec : {M : Type 1} → statement M
 compare-spec =
     tie.close
@@ -173,6 +181,10 @@ compare-spec =
     (λ c κs. search needs)
     (λ c κs. search needs)
     (λ c κs. search needs)
+    (λ c. search needs)
+    (λ c. search needs)
+    (λ c κs. search needs)
+    (λ c κs. search needs)
     returns
     returns-2
     returns-3
@@ -192,4 +204,6 @@ compare-spec =
     returns-17
     returns-18
     returns-19
-    returns-20)
+    returns-20
+    returns-21
+    returns-22)

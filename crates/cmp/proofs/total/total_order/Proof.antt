@@ -2,7 +2,7 @@
 use mathlib.Core.Path.{_≡_, refl, _∙_, ap}
 use borrow.Author.Needs.{needs}
 use lib.Dec.{lit≤}
-use mir.Syntax.{w32}
+use mir.Syntax.{w16, w32}
 use Rattle.float.specs.Format.{positionOf}
 use Rattle.float.specs.Order.{orderZ}
 use Rattle.cmp.proofs.Numbers.{wide-order, narrow-order, narrow-fits}
@@ -42,8 +42,26 @@ returns-3 c =
 returns-4 : tie.Need-returns-4
 returns-4 c = c .kinds-differ2 .ensures ∙ total-refused _ (c .before .before .before .a2 .given .1) (c .before .match3 .keys2)
 
+cast-order-i64-3 : tie.Need-cast-order-i64-3
+cast-order-i64-3 c = narrow-fits {v = w16} (c .before .position-f16 .result) (lit≤ tt) (search needs)
+
+cast-order-i64-4 : tie.Need-cast-order-i64-4
+cast-order-i64-4 c = narrow-fits {v = w16} (c .position-f162 .result) (lit≤ tt) (search needs)
+
 returns-5 : tie.Need-returns-5
-returns-5 c = c .compare .ensures ∙ total-integers _ _ (c .before .match .keys3)
+returns-5 c =
+    let second = c .before in
+    let first = second .before in
+    let o : c .order-i643 .result ≡ orderZ (first .position-f16 .result) (second .position-f162 .result) =
+    narrow-order {v = w16} (first .position-f16 .result) (second .position-f162 .result) (lit≤ tt) (search needs) (search needs) (c .order-i643 .ensures) in
+    total-given (first .before .before .before .before .before .a3 .given .1) (first .before .before .b3 .given .1) refl
+    (order-at o (first .position-f16 .ensures) (second .position-f162 .ensures))
+
+returns-6 : tie.Need-returns-6
+returns-6 c = c .kinds-differ3 .ensures ∙ total-refused _ (c .before .before .before .a3 .given .1) (c .before .match4 .keys2)
+
+returns-7 : tie.Need-returns-7
+returns-7 c = c .compare .ensures ∙ total-integers _ _ (c .before .match .keys4)
 
 pub total-order-spec : {M : Type 1} → statement M
 total-order-spec =
@@ -67,9 +85,19 @@ total-order-spec =
     (λ c κs. search needs)
     (λ c κs. search needs)
     (λ c κs. search needs)
+    (λ c. search needs)
+    (λ c. search needs)
+    (λ c κs. search needs)
+    (λ c κs. search needs)
+    cast-order-i64-3
+    cast-order-i64-4
+    (λ c κs. search needs)
+    (λ c κs. search needs)
     (λ c κs. search needs)
     returns
     returns-2
     returns-3
     returns-4
-    returns-5)
+    returns-5
+    returns-6
+    returns-7)

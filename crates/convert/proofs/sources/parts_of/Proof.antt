@@ -1,12 +1,12 @@
 -- Each arm knows its case; a narrow signed number is read back from its bits at the wider type.
-use mathlib.Core.Path.{sym, _∙_, ap}
+use mathlib.Core.Path.{refl, sym, _∙_, ap}
 use borrow.Author.Needs.{needs}
 use lib.Dec.{lit≤}
 use lib.IntN.{ℤ}
 use mir.Syntax.{w8, w16, w32, w64}
 use mir.Val.{SFits}
 use mir.ValLaws.{toZ-ofZ}
-use Rattle.float.specs.Format.{f32, f64}
+use Rattle.float.specs.Format.{f16, f32, f64}
 use Rattle.float.specs.Number.{times}
 use Rattle.value.specs.Meaning.{wholeOf, unit, stepOf, exactOf}
 use Rattle.value.proofs.TwosComplement.{wider, recast, recast-back}
@@ -83,6 +83,16 @@ returns-10 c =
     (taken-pattern f64 (bits .bits-f64 .ensures) (sign .is-sign-negative-f64 .ensures) (abs .abs-f64 .ensures))
     ∙ sym (ap exactOf (v .1))
 
+returns-11 : tie.Need-returns-11
+unfolding stepOf
+returns-11 c =
+    let abs = c .before in
+    let sign = abs .before in
+    let v = sign .before .before .v11 .given in
+    c .float-parts3 .ensures
+    ∙ ap (times (stepOf f16)) (taken-pattern f16 {b = v .0 .0} refl (sign .is-sign-negative-f16 .ensures) (abs .abs-f16 .ensures))
+    ∙ sym (ap exactOf (v .1))
+
 pub parts-of-spec : {M : Type 1} → statement M
 parts-of-spec =
     tie.close
@@ -120,6 +130,11 @@ parts-of-spec =
     (λ c κs. search needs)
     (λ c κs. search needs)
     (λ c κs. search needs)
+    (λ c. search needs)
+    (λ c κs. search needs)
+    (λ c κs. search needs)
+    (λ c. search needs)
+    (λ c κs. search needs)
     returns
     returns-2
     returns-3
@@ -129,4 +144,5 @@ parts-of-spec =
     returns-7
     returns-8
     returns-9
-    returns-10)
+    returns-10
+    returns-11)

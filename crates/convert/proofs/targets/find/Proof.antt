@@ -35,10 +35,15 @@ returns-9 c = find-at kind.F32 (c .before .enum-told9 .given .1) _ (c .float-in 
 returns-10 : tie.Need-returns-10
 returns-10 c = find-at kind.F64 (c .before .enum-told10 .given .1) _ (c .float-in2 .ensures)
 
+returns-11 : tie.Need-returns-11
+returns-11 c = find-at kind.F16 (c .before .enum-told11 .given .1) _ (c .float-in3 .ensures)
+
 pub find-spec : {M : Type 1} → statement M
 find-spec =
     tie.close
     (tie.spec
+    (λ c. search needs)
+    (λ c κs. search needs)
     (λ c. search needs)
     (λ c κs. search needs)
     (λ c. search needs)
@@ -68,4 +73,5 @@ find-spec =
     returns-7
     returns-8
     returns-9
-    returns-10)
+    returns-10
+    returns-11)

@@ -10,7 +10,7 @@ use mir.Syntax.{Width, w8, w16, w32, w64}
 use mir.Val.{SFits, hbits, toZ, ofZ}
 use mir.ValLaws.{toZ-ofZ}
 use Rattle.value.specs.declared.Kind.the-variants as kind
-use Rattle.value.specs.declared.Value.the-variants.{I8, I16, I32, I64}
+use Rattle.value.specs.declared.Value.the-variants.{I8, I16, I32, I64, F16}
 use Rattle.value.specs.Meaning.{f32Value, f64Value}
 use Rattle.value.proofs.TwosComplement.{narrowed, narrowed-back}
 use Rattle.convert.proofs.Puts.{fits-at, make-at}
@@ -67,6 +67,12 @@ cast-f32-value c = record { fits = c .with-sign .ensures .1 }
 with-sign-requires-2 : tie.Need-with-sign-requires-2
 with-sign-requires-2 c κs = (fits-at kind.F64 (c .enum-told10 .given .1) _ _ (c .before .before .pre), lit≤ tt)
 
+with-sign-requires-3 : tie.Need-with-sign-requires-3
+with-sign-requires-3 c κs = (fits-at kind.F16 (c .enum-told11 .given .1) _ _ (c .before .before .pre), lit≤ tt)
+
+cast-t19 : tie.Need-cast-t19
+cast-t19 c = record { fits = c .with-sign3 .ensures .1 }
+
 -- ---- the value
 
 returns : tie.Need-returns
@@ -108,6 +114,9 @@ returns-9 c = make-at kind.F32 (c .before .before .enum-told9 .given .1) _ _ (c 
 returns-10 : tie.Need-returns-10
 returns-10 c = make-at kind.F64 (c .before .before .enum-told10 .given .1) _ _ (c .f64-value .ensures ∙ ap f64Value (c .before .with-sign2 .ensures .0))
 
+returns-11 : tie.Need-returns-11
+returns-11 c = make-at kind.F16 (c .before .enum-told11 .given .1) _ _ (ap F16 (c .with-sign3 .ensures .0))
+
 pub make-spec : {M : Type 1} → statement M
 make-spec =
     tie.close
@@ -137,6 +146,9 @@ make-spec =
     (λ c. search needs)
     with-sign-requires-2
     (λ c κs. search needs)
+    (λ c. search needs)
+    with-sign-requires-3
+    cast-t19
     returns
     returns-2
     returns-3
@@ -146,4 +158,5 @@ make-spec =
     returns-7
     returns-8
     returns-9
-    returns-10)
+    returns-10
+    returns-11)

@@ -1,6 +1,6 @@
 -- A float's bits are tested; an integer is none.
-use mathlib.Core.Path.{sym, _∙_, ap}
-use Rattle.float.specs.Format.{f32, f64}
+use mathlib.Core.Path.{refl, sym, _∙_, ap}
+use Rattle.float.specs.Format.{f16, f32, f64}
 use Rattle.look.specs.Report.{minusZero}
 use Rattle.look.proofs.ByBits.{minus-zero-float, minus-zero-integer}
 use borrow.Author.Needs.{needs}
@@ -18,7 +18,10 @@ returns-2 c =
     minus-zero-float f64 (c .bits-f64 .ensures) ∙ sym (ap minusZero (known .v2 .given .1))
 
 returns-3 : tie.Need-returns-3
-returns-3 c = minus-zero-integer (c .before .args .v) (c .match .keys3)
+returns-3 c = minus-zero-float f16 refl ∙ sym (ap minusZero (c .before .v3 .given .1))
+
+returns-4 : tie.Need-returns-4
+returns-4 c = minus-zero-integer (c .before .args .v) (c .match .keys4)
 
 pub is-minus-zero-spec : {M : Type 1} → statement M
 is-minus-zero-spec =
@@ -28,6 +31,8 @@ is-minus-zero-spec =
     (λ c κs. search needs)
     (λ c. search needs)
     (λ c κs. search needs)
+    (λ c. search needs)
     returns
     returns-2
-    returns-3)
+    returns-3
+    returns-4)

@@ -16,8 +16,8 @@ slice-aggregate-word-number c = search needs
 word-number-requires : tie.Need-word-number-requires
 word-number-requires c κs = search needs
 
--- there are ten names
-few : (c : tie.After-word-number) → c .word-number .result ≤ 10
+-- there are eleven names
+few : (c : tie.After-word-number) → c .word-number .result ≤ 11
 unfolding wordsOf
 few c = rw (c .word-number .ensures) (among-most _ kindNames)
 

@@ -1,4 +1,4 @@
--- Each range is a form's, counted from its first kind; past 9 there is no kind.
+-- Each range is a form's, counted from its first kind; past 10 there is no kind.
 use mathlib.Core.Path.{_≡_, _∙_, ap}
 use Prim.Native.Nat.{_+_, _-_}
 use native.Mathlib.Omega.{arith}

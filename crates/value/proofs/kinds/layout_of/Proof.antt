@@ -15,6 +15,9 @@ returns-9 c = own (c .enum-told9 .given .1)
 returns-10 : tie.Need-returns-10
 returns-10 c = own (c .enum-told10 .given .1)
 
+returns-11 : tie.Need-returns-11
+returns-11 c = own (c .enum-told11 .given .1)
+
 pub layout-of-spec : {M : Type 1} → statement M
 layout-of-spec =
     tie.close
@@ -37,5 +40,7 @@ layout-of-spec =
     (λ c. search needs)
     (λ c. search needs)
     (λ c. search needs)
+    (λ c. search needs)
     returns-9
-    returns-10)
+    returns-10
+    returns-11)

@@ -94,9 +94,12 @@ bits-of-spec =
     (λ c. search needs)
     (λ c. search needs)
     (λ c. search needs)
+    (λ c. search needs)
+    (λ c. search needs)
     returns-5
     returns-6
     returns-7
     returns-8
     returns-9
-    returns-10)
+    returns-10
+    (λ c. search needs))

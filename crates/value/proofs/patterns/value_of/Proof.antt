@@ -84,6 +84,10 @@ returns-10 c =
     let b = c .before .before .before .args .bits in
     c .f64-value .ensures ∙ ap f64Value (sym (whole b (search needs))) ∙ of-kind b (c .before .enum-told10 .given .1)
 
+returns-11 : tie.Need-returns-11
+unfolding valueOf
+returns-11 c = of-kind (c .before .before .args .bits) (c .enum-told11 .given .1)
+
 pub value-of-spec : {M : Type 1} → statement M
 value-of-spec =
     tie.close
@@ -111,6 +115,8 @@ value-of-spec =
     (λ c κs. search needs)
     (λ c. search needs)
     (λ c κs. search needs)
+    (λ c. search needs)
+    (λ c. search needs)
     returns
     returns-2
     returns-3
@@ -120,4 +126,5 @@ value-of-spec =
     returns-7
     returns-8
     returns-9
-    returns-10)
+    returns-10
+    returns-11)
