@@ -133,6 +133,24 @@ mod tests {
         }
     }
 
+    /// Powers of two, and others whose lower half of digits is 0: from every float
+    /// kind, in every integer kind.
+    #[test]
+    fn whole_floats_end_in_zeros() {
+        let mut random = Random::new(35);
+        for from in Kind::floats() {
+            for to in Kind::integers() {
+                let values = (0..1000).map(|_| source(&mut random, from, to));
+                let whole = values.filter(|&value| convert(value, to).is_ok() && !value.is_zero());
+                let fractions = whole.map(|value| value.bits % from.unit());
+                let (powers, others): (Vec<u64>, Vec<u64>) = fractions.partition(|&bits| bits == 0);
+                let half = |bits: &u64| 2 * bits.trailing_zeros() >= from.fraction();
+                assert!(!powers.is_empty(), "{from:?} {to:?}");
+                assert!(others.iter().any(half), "{from:?} {to:?}");
+            }
+        }
+    }
+
     #[test]
     fn spoiled_lines_are_malformed() {
         let mut random = Random::new(9);

@@ -115,6 +115,15 @@ pub fn all_edges(kind: Kind) -> Vec<Value> {
     with_neighbours(kind, &edges(kind))
 }
 
+/// Zero and every power of two of a float kind, alone and with one digit more at
+/// any place, with either sign: its last digit stands at every place.
+pub fn powers_of_two(kind: Kind) -> impl Iterator<Item = Value> {
+    let powers = (0..kind.infinity()).step_by(kind.unit() as usize);
+    let digits = move || (0..kind.fraction()).map(|place| 1 << place).chain([0]);
+    let sizes = powers.flat_map(move |power| digits().map(move |digit| power | digit));
+    sizes.flat_map(move |size| [size, kind.top() | size].map(|bits| Value::new(kind, bits)))
+}
+
 /// Of a wider float kind every number of a narrow one, and what lies half a step
 /// beyond it, with either sign, and their neighbours by bits.
 pub fn around_numbers(narrow: Kind, wide: Kind) -> Vec<Value> {

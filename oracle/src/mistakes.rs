@@ -76,6 +76,12 @@ impl Case<'_> {
         self.fields[1].starts_with(from) && self.right.starts_with(to)
     }
 
+    /// Whether the answer's last binary digit is set.
+    fn gives_odd(&self) -> bool {
+        self.right
+            .ends_with(['1', '3', '5', '7', '9', 'b', 'd', 'f'])
+    }
+
     /// The first operand, which is one value.
     fn value(&self) -> Value {
         Value::parse(self.fields[1].as_bytes()).expect("a value")
@@ -163,6 +169,8 @@ mistakes! { OF_VALUES of c:
     "4 before 3", "convert" => c.when(c.gives("f32:4", "refused 3"), "refused 4 0");
     "2 before 1", "convert row" => c.turned("refused 1 ", "refused 2 ");
     "none above 2^53", "convert" => c.when(c.bits() > 1 << 53 && c.gives("u64", "f64"), "refused 5 0");
+    "the last digit is a fraction", "convert" => c.when(c.gives("f", "u") && c.gives_odd(), "refused 3 0");
+    "zero is a fraction", "convert" => c.when(c.gives("f", "i") && c.value().is_zero(), "refused 3 0");
     "no negative is whole", "convert" => c.when(c.gives("f32:c", "i"), "refused 3 0");
     "minus zero is below", "convert" => c.when(c.minus_zero() && c.gives("", "u"), "refused 4 0");
     "rounded to 0", "convert" => c.when(c.gives("f64:3", "refused 5"), "f32:00000000");

@@ -181,19 +181,11 @@ fn conversions_around_f16() {
     }
 }
 
-/// Every power of two of a float kind, alone and with one digit more: another
-/// kind has room for it or lacks it.
+/// Another kind has room for all of their digits, or lacks it.
 #[test]
 fn conversions_of_powers_of_two() {
     for kind in Kind::floats() {
-        let digits = (0..kind.fraction()).map(|place| 1 << place);
-        for digit in digits.chain([0]) {
-            for power in (0..kind.infinity()).step_by(kind.unit() as usize) {
-                for sign in [0, kind.top()] {
-                    check_conversions(Value::new(kind, sign | power | digit));
-                }
-            }
-        }
+        edges::powers_of_two(kind).for_each(check_conversions);
     }
 }
 

@@ -92,7 +92,7 @@ pub fn converted(value: Value, to: Kind) -> Result<Option<Value>, String> {
 
 /// To the kind; and what came there, back: the same bits, but for a minus zero
 /// that went through an integer.
-fn there_and_back(value: Value, to: Kind) -> Result<(), String> {
+pub fn there_and_back(value: Value, to: Kind) -> Result<(), String> {
     let Some(there) = converted(value, to)? else {
         return Ok(());
     };

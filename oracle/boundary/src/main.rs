@@ -8,6 +8,7 @@ mod every;
 mod every_f16;
 mod every_f32;
 mod lines;
+mod powers;
 mod raw;
 #[rustfmt::skip]
 #[path = "../../../bindings/rust/silamogo.rs"]
@@ -18,6 +19,7 @@ use std::process::ExitCode;
 const USAGE: &str = "\
 usage: boundary every-f32 STEP     every STEPth pattern of f32, and all near the borders of exponents
        boundary every-f16          every pattern of f16, and what is around its numbers in other kinds
+       boundary powers-of-two      powers of two of the float kinds, alone and with one digit more
        boundary cases SEED COUNT   random cases of every call, made from a seed
 ";
 
@@ -29,6 +31,7 @@ fn main() -> ExitCode {
             .filter(|&step| step > 0)
             .map(every_f32::every_f32),
         ["every-f16"] => Some(every_f16::every_f16()),
+        ["powers-of-two"] => Some(powers::powers_of_two()),
         ["cases", seed, count] => number(seed).zip(number(count)).map(cases::cases),
         _ => None,
     };
