@@ -1,18 +1,20 @@
 -- Binary digits of whole numbers: how many there are, what lies below a place, and m * 2^g over 2^d.
 use mathlib.Core.Path.{_≡_, sym, _∙_, ap, subst}
-use mathlib.Core.Bool.{true, false}
+use mathlib.Core.Bool.{true, false, not}
+use mathlib.Core.Logic.{inl, inr}
 use Prim.Native.Nat.{ℕ, zero, suc, _+_, _-_, _*_, _/_, _%_, _^_, _≤_, _<_}
 use native.Mathlib.Nat.{lt-of-lt-of-le, lt-of-le-of-lt, lt-of-not-le, mul-le-mul-right, mul-lt-mul-of-pos-right, mul-assoc, mul-pos}
 use native.Mathlib.Nat.{mul-mod-left, mul-div-cancel, mul-div-mul-right, mod-eq-of-lt, div-eq-of-lt, mod-one, one-mul, zero-mul, add-zero}
 use native.Mathlib.Nat.{pow-suc, suc-add, sub-add-cancel}
 use native.Mathlib.Omega.{arith}
-use borrow.Author.Tests.{ne-eqb}
+use borrow.Author.Tests.{ne-eqb, lt-ltb}
 use lib.Arith.{mod-mul}
-use lib.Count.{leadingZeros, leading-top, leading-of-zero}
-use lib.Dec.{eqb}
+use lib.Count.{leadingZeros, leading-top, leading-of-zero, trailingZeros}
+use lib.Dec.{eqb, ltb, leb·suc-zero, leb·suc-suc}
 use lib.Pow.{pow-pos, pow-add, pow-mono}
 use lib.Ieee.{size}
 use lib.Ieee.Digits.{size-lt, size-reaches, size-le}
+use Rattle.float.proofs.Naturals.{lt-or-ge}
 
 -- ---- how many digits
 
@@ -54,7 +56,7 @@ size-leading (suc n) h =
 lowest-first : (n l : ℕ) → n % 2 ^ suc l ≡ (n / 2 % 2 ^ l) * 2 + n % 2
 lowest-first n l = ap (λ (k : ℕ). n % k) (pow-suc 2 l) ∙ mod-mul n (pow-pos l) (omega arith)
 
-pub fraction-found : (n l : ℕ) → 0 < l → n % 2 ≡ 1 → eqb (n % 2 ^ l) 0 ≡ false
+fraction-found : (n l : ℕ) → 0 < l → n % 2 ≡ 1 → eqb (n % 2 ^ l) 0 ≡ false
 fraction-found n zero h o = absurd (omega arith)
 fraction-found n (suc l) h o = ne-eqb _ _ (λ (e : n % 2 ^ suc l ≡ 0). omega (arith, lowest-first n l))
 
@@ -63,15 +65,31 @@ zero-scale zero {c} h = ap (λ (n : ℕ). eqb n 0) (zero-mul c)
 zero-scale (suc a) {c} h = let p : 0 < suc a = omega arith in
     ne-eqb (suc a * c) 0 (λ e. let k = mul-pos p h in omega arith) ∙ sym (ne-eqb (suc a) 0 (λ e. omega arith))
 
-pub fraction-passed : (n l : ℕ) → 0 < l → (n % 2 ≡ 1 → ⊥) → eqb (n / 2 % 2 ^ (l - 1)) 0 ≡ eqb (n % 2 ^ l) 0
+fraction-passed : (n l : ℕ) → 0 < l → (n % 2 ≡ 1 → ⊥) → eqb (n / 2 % 2 ^ (l - 1)) 0 ≡ eqb (n % 2 ^ l) 0
 fraction-passed n zero h o = absurd (omega arith)
 fraction-passed n (suc l) h o =
     let q : suc l - 1 ≡ l = omega arith in
     let z : n % 2 ≡ 0 = omega arith in
     rw q (sym (ap (λ (k : ℕ). eqb k 0) (lowest-first n l ∙ ap (λ (k : ℕ). n / 2 % 2 ^ l * 2 + k) z ∙ add-zero _) ∙ zero-scale (n / 2 % 2 ^ l) (omega arith)))
 
-pub fraction-none : (n : ℕ) {l : ℕ} → l ≤ 0 → eqb (n % 2 ^ l) 0 ≡ true
+fraction-none : (n : ℕ) {l : ℕ} → l ≤ 0 → eqb (n % 2 ^ l) 0 ≡ true
 fraction-none n {l} h = let z : l ≡ 0 = omega arith in rw (z, mod-one n)
+
+-- so one of the lowest t is set exactly when fewer than t zeros stand at the end
+pub trailing-fraction : (k n t : ℕ) → 0 < n → n < 2 ^ k → ltb (trailingZeros k n) t ≡ not (eqb (n % 2 ^ t) 0)
+unfolding trailingZeros
+trailing-fraction zero n t z h = absurd (omega arith)
+trailing-fraction (suc k) n zero z h = leb·suc-zero (trailingZeros (suc k) n) ∙ sym (ap not (fraction-none n {l = 0} (omega arith)))
+trailing-fraction (suc k) n (suc t) z h = elim (lt-or-ge 0 (n % 2)) [
+  | inl l ↦
+      let odd : n % 2 ≡ 1 = omega arith in
+      rw odd (lt-ltb 0 (suc t) (omega arith) ∙ sym (ap not (fraction-found n (suc t) (omega arith) odd)))
+  | inr g ↦
+      let even : n % 2 ≡ 0 = omega arith in
+      let one-less : suc t - 1 ≡ t = omega arith in
+      let passed = fraction-passed n (suc t) (omega arith) (λ o. omega arith) in
+      rw even (leb·suc-suc _ t ∙ trailing-fraction k (n / 2) t (omega arith) (omega (arith, pow-suc 2 k)) ∙ ap not (rw one-less at passed))
+]
 
 -- ---- m * 2^g over 2^d
 

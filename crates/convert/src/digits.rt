@@ -13,20 +13,15 @@ pub(crate) fn size_of(n: u64) -> u32
     64 - u64::leading_zeros(n)
 }
 
-// Whether one of the lowest t digits of m is set: then m over 2^t has a fraction.
+// Whether one of the lowest t digits of m is set: then m over 2^t has a fraction. The lowest that is set stands above the trailing zeros; 0 has
+// none, and its 64 trailing zeros may be fewer than t.
 pub(crate) fn has_fraction(m: u64, t: u64) -> bool
     ensures { λ r. ⌜ r ≡ not (eqb (m % 2 ^ t) 0) ⌝ }
 {
-    let mut rest = m;
-    let mut left = t;
-    while left > 0 {
-        if rest % 2 == 1 {
-            return true;
-        }
-        rest = rest / 2;
-        left -= 1;
+    if m == 0 {
+        return false;
     }
-    false
+    (u64::trailing_zeros(m) as u64) < t
 }
 
 // m * 2^g over 2^d.

@@ -1,27 +1,23 @@
--- What is left to look at has a digit set exactly when all of it had: a digit that is set ends the search, one that isn't is halved away.
-use mathlib.Core.Path.{_≡_, refl, sym, _∙_, ap}
-use mathlib.Core.Bool.{not}
-use Prim.Native.Nat.{_%_, _^_}
+-- 0 has no digit set; any other number has one below the place exactly when fewer zeros stand at its end.
+use mathlib.Core.Path.{refl}
+use Prim.Native.Nat.{_^_}
+use native.Mathlib.Nat.{zero-mod}
+use native.Mathlib.Omega.{arith}
 use borrow.Author.Needs.{needs}
-use lib.Dec.{eqb}
-use Rattle.convert.proofs.Binary.{fraction-found, fraction-passed, fraction-none}
+use lib.Count.{trailing-le}
+use Rattle.convert.proofs.Binary.{trailing-fraction}
 use Rattle.convert.proofs.digits.has_fraction.Statement.{statement}
 use Rattle.convert.proofs.digits.has_fraction.Tie as tie
 
-abbrev Inv-loop : tie.InvT-loop
-Inv-loop m t rest₀ left₀ rest left = eqb (rest % 2 ^ left) 0 ≡ eqb (m % 2 ^ t) 0
+returns : tie.Need-returns
+returns c = rw (c .if1 .taken, zero-mod (2 ^ c .before .args .t)) refl
 
-abbrev μ-loop : tie.MeasureT-loop
-μ-loop m t rest₀ left₀ rest left = left
+-- no more zeros than digits
+cast-result : tie.Need-cast-result
+cast-result c = omega (arith, trailing-le 64 (c .before .args .m))
 
-returns : tie.Need-returns Inv-loop μ-loop
-returns c = ap not (sym (fraction-found _ _ (c .before .loop-test .taken) (c .if1 .taken)) ∙ c .before .before .loop .inv)
-
-loop-again : tie.Need-loop-again Inv-loop μ-loop
-loop-again c = fraction-passed _ _ (c .before .loop-test .taken) (c .if1 .left) ∙ c .before .before .loop .inv
-
-returns-2 : tie.Need-returns-2 Inv-loop μ-loop
-returns-2 c = ap not (sym (fraction-none _ (c .loop-test .left)) ∙ c .before .loop .inv)
+returns-2 : tie.Need-returns-2
+returns-2 c = trailing-fraction 64 _ _ (omega (arith, c .if1 .left)) (search needs)
 
 pub has-fraction-spec : {M : Type 1} → statement M
-has-fraction-spec = tie.close (tie.spec Inv-loop μ-loop (λ c. refl) returns (λ c. search needs) (λ c. search needs) loop-again returns-2)
+has-fraction-spec = tie.close (tie.spec returns cast-result returns-2)
