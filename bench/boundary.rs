@@ -1,4 +1,4 @@
-//! The boundary's calls on slices of kind numbers and bits.
+//! The boundary's calls on one sample, and on slices of kind numbers and bits.
 
 #[path = "../bindings/rust/silamogo.rs"]
 mod silamogo;
@@ -7,7 +7,11 @@ pub use silamogo::c::*;
 
 pub const DONE: Answer = Answer { number: 0, place: 0 };
 
-// SAFETY of the three: pointers and lengths are those of slices that are lent for the call.
+// SAFETY of the four: a sample passes by value; pointers and lengths are those of slices that are lent for the call.
+
+pub fn convert(v: Sample, to: u8) -> Given<Sample> {
+    unsafe { silamogo_convert(v, to) }
+}
 
 pub fn record_compare(a_kinds: &[u8], a_bits: &[u64], b_kinds: &[u8], b_bits: &[u64]) -> Given<u8> {
     let (a, x, b, y) = (a_kinds.as_ptr(), a_bits.as_ptr(), b_kinds.as_ptr(), b_bits.as_ptr());

@@ -1,15 +1,12 @@
 //! Records and keys, one call a record: 4,096 different records of one shape, so that no answer can be learnt.
 
 use std::hint::black_box;
-use std::time::Instant;
 
 use crate::boundary::{self, Answer, Given, DONE};
 use crate::random::Random;
 use crate::rust_records as rust;
 use crate::table::Line;
-
-const COUNT: usize = 4096;
-const ROUNDS: usize = 1000;
+use crate::turns::{best, COUNT};
 
 /// u16, i16, f32; and every kind at least once.
 const SHAPES: [(&str, &[u8]); 2] = [("3 fields", &[1, 5, 8]), ("12 fields", &[0, 5, 8, 3, 1, 10, 4, 2, 7, 8, 6, 9])];
@@ -43,21 +40,6 @@ fn differing_at(random: &mut Random, place: usize, kinds: &[u8], records: &[u64]
         }
     }
     others
-}
-
-/// Best seconds a record of both sides, in turn; the library is the first.
-fn best(mut library: impl FnMut(), mut rust: impl FnMut()) -> [f64; 2] {
-    let mut best = [f64::MAX; 2];
-    for _ in 0..ROUNDS {
-        let mut time = |side: usize, run: &mut dyn FnMut()| {
-            let start = Instant::now();
-            run();
-            best[side] = best[side].min(start.elapsed().as_secs_f64() / COUNT as f64);
-        };
-        time(0, &mut library);
-        time(1, &mut rust);
-    }
-    best
 }
 
 fn print(work: &str, size: &str, [library, rust]: [f64; 2]) {

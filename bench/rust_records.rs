@@ -20,7 +20,7 @@ fn bytes(kind: u8) -> usize {
     BYTES[usize::from(kind)]
 }
 
-fn highest(kind: u8) -> u64 {
+pub fn highest(kind: u8) -> u64 {
     u64::MAX >> (64 - 8 * bytes(kind))
 }
 
