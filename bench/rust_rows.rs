@@ -71,18 +71,19 @@ fn refusal_of(x: f32) -> u8 {
     match x {
         x if x.is_nan() => 1,
         x if x.is_infinite() => 2,
+        x if x.to_bits() == 1 << 31 => 13,
         x if x.fract() != 0.0 => 3,
         _ => 4,
     }
 }
 
-/// Check and cast: a sample converts when its cast, cast back, equals it.
+/// Check and cast: a sample converts when its cast, cast back, has its bits; minus zero's doesn't.
 #[inline(never)]
 pub fn f32_to_u16<const BLOCKS: bool>(src: &[f32], dst: &mut [u16]) -> Answer {
     if src.len() != dst.len() {
         return LENGTHS;
     }
-    if let Some(place) = first::<BLOCKS, f32>(src, |x| f32::from(x as u16) != x) {
+    if let Some(place) = first::<BLOCKS, f32>(src, |x| f32::from(x as u16).to_bits() != x.to_bits()) {
         return Answer { number: refusal_of(src[place]), place };
     }
     for (y, x) in dst.iter_mut().zip(src) {

@@ -41,6 +41,9 @@ fn whole(v: Sample, to: u8) -> Result<u64, u8> {
     if x.is_infinite() {
         return Err(2);
     }
+    if x.to_bits() == 1 << 63 {
+        return Err(13);
+    }
     if x.fract() != 0.0 {
         return Err(3);
     }

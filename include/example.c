@@ -40,6 +40,8 @@ static void rows(void) {
            back[0], back[1], back[2]);
     floats[1] = 0.5f;
     say("a half to 16 bits", silamogo_row_f32_to_u16(floats, 3, back, 3));
+    floats[1] = -0.0f;
+    say("a masked pixel to 16 bits", silamogo_row_f32_to_u16(floats, 3, back, 3));
 
     float light[3] = {-0.25f, 0.5f, 1.5f};
     say("clamp", silamogo_row_clamp(light, 3, 0.0f, 1.0f));

@@ -50,7 +50,8 @@ enum silamogo_refusal {
     SILAMOGO_LENGTHS = 9,           /* lengths of two lent rows that differ, or a key of wrong length */
     SILAMOGO_SHORT_BUFFER = 10,     /* a buffer shorter than the key */
     SILAMOGO_FIELD_COUNT = 11,      /* a record of no fields, or of more than 12 */
-    SILAMOGO_NO_KEY = 12            /* bytes that no record has as its key: a field would be a NaN or minus zero */
+    SILAMOGO_NO_KEY = 12,           /* bytes that no record has as its key: a field would be a NaN or minus zero */
+    SILAMOGO_MINUS_ZERO = 13        /* minus zero, the mark of a masked pixel, to an integer kind */
 };
 
 enum silamogo_order { SILAMOGO_LESS = 0, SILAMOGO_EQUAL = 1, SILAMOGO_GREATER = 2, SILAMOGO_NO_ORDER = 3 };
@@ -136,7 +137,7 @@ silamogo_sampled silamogo_max(silamogo_sample a, silamogo_sample b);
 silamogo_sampled silamogo_clamp(silamogo_sample v, silamogo_sample lower, silamogo_sample upper);
 
 /* The same number in the kind `to`, never rounded; to its own kind a sample comes back as it is (RULES: Exact conversion). Refusals: 1, 2,
- * 3, 4, 5. */
+ * 13, 3, 4, 5. */
 silamogo_sampled silamogo_convert(silamogo_sample v, uint8_t to);
 
 /* ---- rows. A row is done whole, or refused whole and left as it was; the first sample that can't be done gives the place. Length 0 is
@@ -145,8 +146,8 @@ silamogo_sampled silamogo_convert(silamogo_sample v, uint8_t to);
 /* Clamps each sample in place. Refusals: 6 for the bounds, 8 at the first NaN. */
 silamogo_answer silamogo_row_clamp(float *row, size_t length, float lower, float upper);
 
-/* Each sample of src converted into dst. Refusals: 9 for lengths that differ; then u16_to_u8 4, f32_to_u16 1, 2, 3, 4 at the first such
- * sample. */
+/* Each sample of src converted into dst. Refusals: 9 for lengths that differ; then u16_to_u8 4, f32_to_u16 1, 2, 13, 3, 4 at the first
+ * such sample. */
 silamogo_answer silamogo_row_u8_to_u16(const uint8_t *src, size_t src_length, uint16_t *dst, size_t dst_length);
 silamogo_answer silamogo_row_u16_to_u8(const uint16_t *src, size_t src_length, uint8_t *dst, size_t dst_length);
 silamogo_answer silamogo_row_u16_to_f32(const uint16_t *src, size_t src_length, float *dst, size_t dst_length);

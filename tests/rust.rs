@@ -83,7 +83,7 @@ fn refused() -> usize {
 fn converted() -> usize {
     let refused = |number| Err(Refusal { number, place: 0 });
     let (half, single) = (|bits| Ok(Sample::f16(bits)), |bits| Ok(f32::from_bits(bits).into()));
-    let cases: [(Sample, Kind, Result<Sample>); 32] = [
+    let cases: [(Sample, Kind, Result<Sample>); 34] = [
         (65504u16.into(), Kind::F16, half(0x7bff)),
         (65505u16.into(), Kind::F16, refused(4)),
         (65536u32.into(), Kind::F16, refused(4)),
@@ -112,6 +112,8 @@ fn converted() -> usize {
         (Sample::f16(0x7c01), Kind::F32, refused(1)),
         (Sample::f16(0xfe00), Kind::U8, refused(1)),
         (Sample::f16(0xfc00), Kind::I64, refused(2)),
+        (Sample::f16(0x8000), Kind::I8, refused(13)),
+        (Sample::f16(0x0000), Kind::I8, Ok(0i8.into())),
         (Sample::f16(0x3800), Kind::U8, refused(3)),
         (Sample::f16(0xbc00), Kind::U64, refused(4)),
         (Sample::f16(0xbc00), Kind::I8, Ok((-1i8).into())),

@@ -46,6 +46,8 @@ def rows():
     print("to 16 bits, floats and back:", list(wide), list(floats), wide == back)
     floats[4] = 0.5
     print("a half to 16 bits:", tried(silamogo.row_f32_to_u16, floats, back))
+    floats[4] = -0.0
+    print("a masked pixel to 16 bits:", tried(silamogo.row_f32_to_u16, floats, back))
 
     light = array("f", [-0.25, 0.5, 1.5])
     silamogo.row_clamp(light, 0, 1)

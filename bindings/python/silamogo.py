@@ -42,8 +42,9 @@ class Sample(namedtuple("Sample", ["kind", "bits"])):
 
 
 def sample(kind, number):
-    """The sample that has exactly this number: an int, a float, a Fraction, or one of NumPy's. Refused as by conversion, so with 3 for a
-    fraction in an integer kind, 4 beyond the kind's range, 5 for a number that a float kind lacks; 7 for a kind that names none."""
+    """The sample that has exactly this number: an int, a float, a Fraction, or one of NumPy's. Refused as by conversion, so with 13 for
+    minus zero and 3 for a fraction in an integer kind, 4 beyond the kind's range, 5 for a number that a float kind lacks; 7 for a kind that
+    names none."""
     kind = _kind(kind)
     if isinstance(number, float):
         return _from_f64(number, kind)
@@ -54,7 +55,7 @@ def sample(kind, number):
     except ValueError:  # a NaN
         raise Refusal(1, 0) from None
     if kind < Kind.F32:
-        return _whole(exact, kind)
+        return _whole(exact, kind) if exact else _from_f64(float(number), kind)  # by its sign, zero or 13
     if abs(exact) > _LARGEST[kind]:
         raise Refusal(4, 0)
     x = float(exact or number)  # minus zero stays
@@ -152,7 +153,7 @@ def clamp(s, lower, upper):
 
 
 def convert(s, to):
-    """The same number in another kind, never rounded; 1, 2, 3, 4, 5."""
+    """The same number in another kind, never rounded; 1, 2, 13, 3, 4, 5."""
     return _given(ask("convert", passed(s), word(to, 8)))
 
 
@@ -185,7 +186,7 @@ def row_u16_to_f32(src, dst):
 
 
 def row_f32_to_u16(src, dst):
-    """9 for lengths that differ; then 1, 2, 3 or 4 at the first sample that u16 doesn't have."""
+    """9 for lengths that differ; then 1, 2, 13, 3 or 4 at the first sample that u16 doesn't have."""
     _convert_row("row_f32_to_u16", src, "f", dst, "H")
 
 

@@ -20,6 +20,7 @@ SENTENCES = {
     10: "the buffer is shorter than the key",
     11: "a record has 1 to 12 fields",
     12: "no record has this key",
+    13: "minus zero, the mark of a masked pixel, has no place in an integer kind",
 }
 
 

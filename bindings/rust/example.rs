@@ -24,6 +24,8 @@ fn rows() -> silamogo::Result<()> {
     println!("to 16 bits, floats and back: {wide:?} {floats:?} {}", wide == back);
     floats[4] = 0.5;
     println!("a half to 16 bits: {:?}", silamogo::row_f32_to_u16(&floats, &mut back));
+    floats[4] = -0.0;
+    println!("a masked pixel to 16 bits: {:?}", silamogo::row_f32_to_u16(&floats, &mut back));
 
     let mut light = [-0.25, 0.5, 1.5];
     silamogo::row_clamp(&mut light, 0.0, 1.0)?;

@@ -80,6 +80,7 @@ impl Refusal {
             10 => "the buffer is shorter than the key",
             11 => "a record has 1 to 12 fields",
             12 => "no record has this key",
+            13 => "minus zero, the mark of a masked pixel, has no place in an integer kind",
             _ => "a refusal that has no sentence here",
         }
     }
@@ -131,7 +132,7 @@ pub fn clamp(value: Sample, lower: Sample, upper: Sample) -> Result<Sample> {
     sampled(unsafe { c::silamogo_clamp(value.into(), lower.into(), upper.into()) })
 }
 
-/// The same number in another kind, never rounded; 1, 2, 3, 4, 5.
+/// The same number in another kind, never rounded; 1, 2, 13, 3, 4, 5.
 pub fn convert(value: Sample, to: Kind) -> Result<Sample> {
     sampled(unsafe { c::silamogo_convert(value.into(), to as u8) })
 }
@@ -158,7 +159,7 @@ pub fn row_u16_to_f32(src: &[u16], dst: &mut [f32]) -> Result<()> {
     answered(unsafe { c::silamogo_row_u16_to_f32(src.as_ptr(), src.len(), dst.as_mut_ptr(), dst.len()) })
 }
 
-/// 9 for lengths that differ; then 1, 2, 3 or 4 at the first sample that u16 doesn't have.
+/// 9 for lengths that differ; then 1, 2, 13, 3 or 4 at the first sample that u16 doesn't have.
 pub fn row_f32_to_u16(src: &[f32], dst: &mut [u16]) -> Result<()> {
     answered(unsafe { c::silamogo_row_f32_to_u16(src.as_ptr(), src.len(), dst.as_mut_ptr(), dst.len()) })
 }

@@ -83,7 +83,7 @@ mod tests {
             let mut fixed = fixed::lines();
             fixed.retain(|line| line.starts_with(&word));
             let (fixed, random) = (refusals(&fixed), refusals(&lines_of(line_kind, 20_000)));
-            for number in 1..=12 {
+            for number in 1..=13 {
                 let of_number = |refusal: &&(u32, usize)| refusal.0 == number;
                 let often = random.iter().filter(of_number).count() > 100;
                 let may = line_kind.refusals.contains(&number);

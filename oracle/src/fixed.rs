@@ -64,7 +64,8 @@ fn push_integers(kind: Kind, lines: &mut Vec<String>) {
     lines.push(format!("clamp {ones} {zero} {middle}"));
 }
 
-/// The greatest finite number to every other kind that isn't wider.
+/// The greatest finite number to every other kind that isn't wider; a float
+/// kind's minus zero to every integer kind.
 fn push_conversions(kind: Kind, lines: &mut Vec<String>) {
     let greatest = match kind.form() {
         Form::Unsigned => kind.mask(),
@@ -76,6 +77,11 @@ fn push_conversions(kind: Kind, lines: &mut Vec<String>) {
         .iter()
         .filter(|&&to| to != kind && to.width() <= kind.width());
     lines.extend(others.map(|to| format!("convert {greatest} {}", to.name())));
+    if kind.is_float() {
+        let minus_zero = Value::new(kind, kind.top());
+        let integers = Kind::integers().into_iter();
+        lines.extend(integers.map(|to| format!("convert {minus_zero} {}", to.name())));
+    }
 }
 
 /// The ends and zero; and what is read at the ends of what keys have.
@@ -106,6 +112,8 @@ fn push_blocks(lines: &mut Vec<String>) {
         let floats = row(Kind::F32, 0x4000_0000, 0x7fc0_0000);
         lines.push(format!("rowclamp 00000000 3f800000 {floats}"));
         lines.push(format!("row f32 u16 {floats} 513"));
+        let masked = row(Kind::F32, 0x4000_0000, 0x8000_0000);
+        lines.push(format!("row f32 u16 {masked} 513"));
         lines.push(format!("row u16 u8 {} 513", row(Kind::U16, 0xff, 0x100)));
     }
     for length in [255, 256, 257] {

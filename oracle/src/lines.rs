@@ -51,8 +51,8 @@ line_kinds! {
     "max" choice::pair pair choice::max [7, 8];
     "clamp" choice::clamp three choice::clamp [7, 6, 8];
     "rowclamp" row::rowclamp bounds_row choice::rowclamp [6, 8];
-    "convert" convert::convert value_to convert::convert [1, 2, 3, 4, 5];
-    "row" row::row row_to convert::row [9, 1, 2, 3, 4];
+    "convert" convert::convert value_to convert::convert [1, 2, 13, 3, 4, 5];
+    "row" row::row row_to convert::row [9, 1, 2, 13, 3, 4];
     "rcompare" record::pair records record::compare [11, 7];
     "rmin" record::pair records record::min [11, 7, 8];
     "rmax" record::pair records record::max [11, 7, 8];

@@ -110,6 +110,11 @@ impl Case<'_> {
         value.is_some_and(|value| value.bits != 0 && value.is_zero())
     }
 
+    /// Zero in the kind that is asked for.
+    fn masked_as_zero(&self) -> String {
+        self.with(1, "u8:00")
+    }
+
     fn first_fields(&self) -> String {
         let firsts = self.fields.iter().map(|field| field.split(',').next());
         ask(&firsts.map(Option::unwrap).collect::<Vec<&str>>().join(" "))
@@ -172,7 +177,12 @@ mistakes! { OF_VALUES of c:
     "the last digit is a fraction", "convert" => c.when(c.gives("f", "u") && c.gives_odd(), "refused 3 0");
     "zero is a fraction", "convert" => c.when(c.gives("f", "i") && c.value().is_zero(), "refused 3 0");
     "no negative is whole", "convert" => c.when(c.gives("f32:c", "i"), "refused 3 0");
-    "minus zero is below", "convert" => c.when(c.minus_zero() && c.gives("", "u"), "refused 4 0");
+    "minus zero is below", "convert" => c.when(c.is_refused(13) && c.fields[2].starts_with('u'), "refused 4 0");
+    "minus zero is 0", "convert" => c.when(c.is_refused(13), &c.masked_as_zero());
+    "minus zero has a fraction", "convert row" => c.turned("refused 13", "refused 3");
+    "no zero is taken", "convert" => c.when(c.gives("f", "i") && c.value().is_zero(), "refused 13 0");
+    "minus zero stops at floats", "convert" => c.when(c.minus_zero() && c.gives("f", "f"), "refused 13 0");
+    "a minus sign is minus zero", "convert" => c.when(c.gives("f32:c", "i"), "refused 13 0");
     "rounded to 0", "convert" => c.when(c.gives("f64:3", "refused 5"), "f32:00000000");
     "f16 ends at 65536", "convert" => c.when(c.to("f16") && c.gives("u16", "refused 4"), "refused 5 0");
     "rounded to f16", "convert" => c.when(c.to("f16") && c.is_refused(5), &c.nearest_f16());
@@ -192,6 +202,8 @@ mistakes! { OF_LISTS of c:
     "no bounds for no sample", "rowclamp" => c.when(c.fields[3] == "-", "-");
     "8 before 6", "rowclamp" => c.when(c.is_refused(6) && c.nan(3), "refused 8 0");
     "1 before 9", "row" => c.when(c.is_refused(9) && c.nan(3), "refused 1 0");
+    "a mask is 0", "row" => c.read_as("80000000", "00000000");
+    "a mask is passed over", "row" => c.when(c.is_refused(13), &c.read_as("80000000", "3f800000"));
     "the shorter length", "row" => c.when(c.is_refused(9) && c.fields[4] == "0", "-");
     "first fields alone", "rcompare" => c.first_fields();
     "any NaN is Unordered", "rcompare" => c.when(c.nan(1) || c.nan(2), "Unordered");

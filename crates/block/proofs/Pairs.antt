@@ -58,7 +58,7 @@ module _ (n : ℕ) (small : n < 2 ^ 16) where
   u16-pattern : convertOf (U16 n) kind.F32 ≡ gives (f32Value (toBits binary32 (asF32 n)))
   unfolding madeIn
   u16-pattern =
-      complete (U16 n) kind.F32 (λ q. omega arith) (toBits binary32 (asF32 n)) (λ q. clash cc) (same-number n small)
+      complete (U16 n) kind.F32 (λ q. omega arith) (toBits binary32 (asF32 n)) (λ q. clash cc) refl (same-number n small)
       ∙ ap (λ (b : ℕ). gives (f32Value b)) (encoded n small)
 
   u16-bits : bitsTo kind.F32 (U16 n) ≡ mapped plainBits (u16ToF32 n)

@@ -1,4 +1,5 @@
--- The five rules all pass exactly when some value of the form has the number: by the three forms.
+-- The six rules all pass exactly when some value of the form has the number, and not for minus zero to an integer form; what is made then stands
+-- for the same, the sign of a zero too: by the three forms.
 use mathlib.Core.Path.{_≡_, refl, sym, _∙_, ap, subst}
 use mathlib.Core.Logic.{_⊎_, inl, inr}
 use mathlib.Core.Bool.{Bool, true, false, not, _&&_, true≢false, and-true, and-false}
@@ -25,15 +26,16 @@ use Rattle.value.specs.Outcome.{gives}
 use Rattle.value.specs.Rules.{chain}
 use Rattle.value.proofs.Units.{unit-pos}
 use Rattle.value.proofs.Outcomes.{refuse-passes}
-use Rattle.convert.specs.Convert.{intoRules, isInfinite, hasFraction, outside, outOfRange, notHeld, heldIn, patternFor, signFor}
+use Rattle.convert.specs.Convert.{intoRules, isInfinite, isMinusZero, hasFraction, outside, outOfRange, notHeld, heldIn, patternFor, signFor}
 use Rattle.convert.specs.Convert.{magnitudeFor, absFor, integerFor}
 use Rattle.convert.proofs.Encode.{held-of}
 use Rattle.convert.proofs.Patterns.{made-small, encode-below, finite-made, infinite-made}
 
--- none of the five rules holds
+-- none of the six rules holds
 pub record Accepted (form : Form) (x : Exact) : Type 0 where
   pub some-number : isNone x ≡ false
   pub no-infinity : (isInfinite x && isInteger form) ≡ false
+  pub no-minus-zero : (isMinusZero x && isInteger form) ≡ false
   pub no-fraction : (hasFraction x && isInteger form) ≡ false
   pub in-range : outOfRange form x ≡ false
   pub held : notHeld form x ≡ false
@@ -45,10 +47,11 @@ rules-accept form x result r h =
     let c = refuse-passes _ _ _ _ r (b .1) in
     let d = refuse-passes _ _ _ _ r (c .1) in
     let e = refuse-passes _ _ _ _ r (d .1) in
-    (record { some-number = a .0; no-infinity = b .0; no-fraction = c .0; in-range = d .0; held = e .0 }, cc)
+    let f = refuse-passes _ _ _ _ r (e .1) in
+    (record { some-number = a .0; no-infinity = b .0; no-minus-zero = c .0; no-fraction = d .0; in-range = e .0; held = f .0 }, cc)
 
 pub rules-give : {A : Type 0} (form : Form) (x : Exact) (result : A) → Accepted form x → chain (intoRules form x) (gives result) ≡ gives result
-rules-give form x result a = simp (a .some-number, a .no-infinity, a .no-fraction, a .in-range, a .held)
+rules-give form x result a = simp (a .some-number, a .no-infinity, a .no-minus-zero, a .no-fraction, a .in-range, a .held)
 
 -- what the made value means
 abbrev pub exactFor : Form → Exact → Exact
@@ -70,40 +73,43 @@ negated : (m n : ℕ) → pos n ≡ negℤ (pos m) → m ≡ 0
 negated zero n h = refl
 negated (suc m) n h = cc
 
-pub whole-number : (s : Bool) (n u : ℕ) → numberOf (times u (wholeOf (signedOf s n))) ≡ numberOf (finite s (n * u))
-whole-number false n u = refl
-whole-number true zero u = rw (zero-mul u) refl
-whole-number true (suc n) u = refl
-
 -- without a fraction, the whole part has the magnitude
 whole-part : (m : ℕ) → (not (eqb (m % unit) 0) && true) ≡ false → m / unit * unit ≡ m
 whole-part m h = let z : m % unit ≡ 0 = eqb-true _ _ (not-false _ (sym (and-true _) ∙ h)) in omega (arith, div-add-mod' m unit)
 
--- ---- accepted: the made value has the number
+-- ---- accepted: the made value stands for the same
 
-made-unsigned : (k : ℕ) (s : Bool) (m : ℕ) → m / unit * unit ≡ m → outOfRange (unsigned k) (finite s m) ≡ false
-    → number (pos (m / unit * unit)) ≡ numberOf (finite s m)
-made-unsigned k false m w h = ap (λ (n : ℕ). number (pos n)) w
-made-unsigned k true m w h =
+-- a minus sign that isn't minus zero's
+minus-some : (m : ℕ) → ((true && eqb m 0) && true) ≡ false → 0 < m
+minus-some zero h = absurd (true≢false h)
+minus-some (suc m) h = omega arith
+
+made-unsigned : (k : ℕ) (s : Bool) (m : ℕ) → m / unit * unit ≡ m → ((s && eqb m 0) && true) ≡ false → outOfRange (unsigned k) (finite s m) ≡ false
+    → finite false (m / unit * unit) ≡ finite s m
+made-unsigned k false m w z h = ap (finite false) w
+made-unsigned k true m w z h =
     let l : m / unit ≤ 0 = ltb-false _ _ h in
-    let z : m / unit ≡ 0 = omega arith in
-    let q : m ≡ 0 = sym w ∙ ap (λ (n : ℕ). n * unit) z ∙ zero-mul unit in
-    ap (λ (n : ℕ). number (pos n)) (w ∙ q) ∙ sym (ap (λ (n : ℕ). numberOf (finite true n)) q)
+    let q : m / unit ≡ 0 = omega arith in
+    absurd (omega (arith, minus-some m z, sym w ∙ ap (λ (n : ℕ). n * unit) q ∙ zero-mul unit))
 
--- in a float format the sign of a zero is kept too
+made-signed : (s : Bool) (n m : ℕ) → n * unit ≡ m → ((s && eqb m 0) && true) ≡ false → times unit (wholeOf (signedOf s n)) ≡ finite s m
+made-signed false n m w z = ap (finite false) w
+made-signed true zero m w z = absurd (omega (arith, minus-some m z, zero-mul unit))
+made-signed true (suc n) m w z = ap (finite true) w
+
 pub made-float : (f : Format) (x : Exact) → Accepted (floating f) x → exactFor (floating f) x ≡ x
 made-float f notNumber a = absurd (true≢false (a .some-number))
 made-float f (infinite s) a = infinite-made f s
 made-float f (finite s m) a = finite-made f s m (ltb-false _ _ (a .in-range)) (not-false _ (a .held))
 
-pub made-number : (form : Form) (x : Exact) → Accepted form x → numberOf (exactFor form x) ≡ numberOf x
-made-number (floating f) x a = ap numberOf (made-float f x a)
-made-number (unsigned k) notNumber a = absurd (true≢false (a .some-number))
-made-number (unsigned k) (infinite s) a = absurd (true≢false (a .no-infinity))
-made-number (unsigned k) (finite s m) a = made-unsigned k s m (whole-part m (a .no-fraction)) (a .in-range)
-made-number (signed k) notNumber a = absurd (true≢false (a .some-number))
-made-number (signed k) (infinite s) a = absurd (true≢false (a .no-infinity))
-made-number (signed k) (finite s m) a = whole-number s (m / unit) unit ∙ ap (λ (n : ℕ). numberOf (finite s n)) (whole-part m (a .no-fraction))
+pub made-same : (form : Form) (x : Exact) → Accepted form x → exactFor form x ≡ x
+made-same (floating f) x a = made-float f x a
+made-same (unsigned k) notNumber a = absurd (true≢false (a .some-number))
+made-same (unsigned k) (infinite s) a = absurd (true≢false (a .no-infinity))
+made-same (unsigned k) (finite s m) a = made-unsigned k s m (whole-part m (a .no-fraction)) (a .no-minus-zero) (a .in-range)
+made-same (signed k) notNumber a = absurd (true≢false (a .some-number))
+made-same (signed k) (infinite s) a = absurd (true≢false (a .no-infinity))
+made-same (signed k) (finite s m) a = made-signed s (m / unit) m (whole-part m (a .no-fraction)) (a .no-minus-zero)
 
 -- the whole part fits the kind
 pub unsigned-fits : (k : ℕ) (x : Exact) → Accepted (unsigned k) x → magnitudeFor x < 2 ^ k
@@ -155,12 +161,20 @@ only-finite z t (inl h) = clash cc
 only-finite z true (inr h) = clash cc
 only-finite z false (inr h) = clash cc
 
-pub accepts-unsigned : (k n : ℕ) (x : Exact) → n < 2 ^ k → numberOf (times unit (wholeOf (pos n))) ≡ numberOf x → Accepted (unsigned k) x
-accepts-unsigned k n notNumber l h = only-finite _ true (inl h)
-accepts-unsigned k n (infinite t) l h = only-finite _ t (inr h)
-accepts-unsigned k n (finite s m) l h =
+pub accepts-unsigned : (k n : ℕ) (x : Exact) → isMinusZero x ≡ false → n < 2 ^ k → numberOf (times unit (wholeOf (pos n))) ≡ numberOf x
+    → Accepted (unsigned k) x
+accepts-unsigned k n notNumber z l h = only-finite _ true (inl h)
+accepts-unsigned k n (infinite t) z l h = only-finite _ t (inr h)
+accepts-unsigned k n (finite s m) z l h =
     let q : m ≡ n * unit = sym (signed-mag s m (pos (n * unit)) h) in
-    record { some-number = refl; no-infinity = refl; no-fraction = no-fraction-in (unsigned k) s m n q; in-range = inside-unsigned k s m n l h q; held = refl }
+    record {
+      some-number = refl;
+      no-infinity = refl;
+      no-minus-zero = and-true _ ∙ z;
+      no-fraction = no-fraction-in (unsigned k) s m n q;
+      in-range = inside-unsigned k s m n l h q;
+      held = refl;
+    }
 
 -- an integer as a sign and a magnitude
 whole-signed : (z : ℤ) (u : ℕ) → numberOf (times u (wholeOf z)) ≡ number (signedOf (isNegative z) (natAbs z * u))
@@ -178,15 +192,17 @@ inside-signed half (negsuc n) false m l h q =
     let b : 1 * unit ≤ suc n * unit = mul-le-mul-right unit (omega arith) in
     absurd (omega (arith, unit-pos))
 
-pub accepts-signed : (k : ℕ) (z : ℤ) (x : Exact) → mag z < 2 ^ (k - 1) → numberOf (times unit (wholeOf z)) ≡ numberOf x → Accepted (signed k) x
-accepts-signed k z notNumber l h = only-finite _ true (inl (sym (whole-signed z unit) ∙ h))
-accepts-signed k z (infinite t) l h = only-finite _ t (inr (sym (whole-signed z unit) ∙ h))
-accepts-signed k z (finite s m) l h =
+pub accepts-signed : (k : ℕ) (z : ℤ) (x : Exact) → isMinusZero x ≡ false → mag z < 2 ^ (k - 1) → numberOf (times unit (wholeOf z)) ≡ numberOf x
+    → Accepted (signed k) x
+accepts-signed k z notNumber o l h = only-finite _ true (inl (sym (whole-signed z unit) ∙ h))
+accepts-signed k z (infinite t) o l h = only-finite _ t (inr (sym (whole-signed z unit) ∙ h))
+accepts-signed k z (finite s m) o l h =
     let g = sym (whole-signed z unit) ∙ h in
     let q : m ≡ natAbs z * unit = sym (signed-mag s m (signedOf (isNegative z) (natAbs z * unit)) g) ∙ abs-signed (isNegative z) (natAbs z * unit) in
     record {
       some-number = refl;
       no-infinity = refl;
+      no-minus-zero = and-true _ ∙ o;
       no-fraction = no-fraction-in (signed k) s m (natAbs z) q;
       in-range =
           inside-signed (2 ^ (k - 1)) z s m l g q;
@@ -210,10 +226,14 @@ finite-magnitude f c s m h = elim (three-ways (absIn f c) (infIn f)) [
       (inl (sym h ∙ ap (λ (x : Exact). numberOf (times (stepOf f) x)) (pattern-nan (fractionOf f) (exponentOf f) c g)))
 ]
 
+-- a float format has both infinities
+pub infinity-accepted : (f : Format) (s : Bool) → Accepted (floating f) (infinite s)
+infinity-accepted f s = record { some-number = refl; no-infinity = refl; no-minus-zero = refl; no-fraction = refl; in-range = refl; held = refl }
+
 pub accepts-float : (f : Format) (c : ℕ) (x : Exact) → isNone x ≡ false
     → numberOf (times (stepOf f) (patternIn f c)) ≡ numberOf x → Accepted (floating f) x
 accepts-float f c notNumber t h = absurd (true≢false t)
-accepts-float f c (infinite s) t h = record { some-number = refl; no-infinity = refl; no-fraction = refl; in-range = refl; held = refl }
+accepts-float f c (infinite s) t h = infinity-accepted f s
 accepts-float f c (finite s m) t h =
     let x = absIn f c in
     let g = finite-magnitude f c s m h in
@@ -225,6 +245,7 @@ accepts-float f c (finite s m) t h =
     record {
       some-number = refl;
       no-infinity = refl;
+      no-minus-zero = and-false (isMinusZero (finite s m));
       no-fraction = and-false (hasFraction (finite s m));
       in-range = le-ltb (largestIn f * stepOf f) m b;
       held = ap not (ap (heldIn f) (g .1) ∙ held-of f x);

@@ -1,6 +1,7 @@
--- To another kind a value converts exactly when it has a number and some value of that kind has the same number; and then the answer has it.
+-- To another kind a value converts exactly when it has a number, some value of that kind has the same number, and it isn't minus zero to an
+-- integer kind; and then the answer stands for the same.
 use mathlib.Core.Path.{_≡_, refl, sym, _∙_, ap, subst}
-use mathlib.Core.Bool.{Bool, true, false, cond}
+use mathlib.Core.Bool.{Bool, true, false, _&&_, cond, and-true}
 use mathlib.Core.List.{[]}
 use Prim.Native.Nat.{ℕ, _-_, _*_, _%_, _^_, _<_}
 use native.Mathlib.Nat.{mod-eq-of-lt}
@@ -11,7 +12,7 @@ use lib.Signed.{mag}
 use lib.Ieee.{ofBits}
 use lib.Ieee as language
 use Rattle.float.specs.Language.{ownOf}
-use Rattle.float.specs.Format.{Format, f16, f32, f64, signIn}
+use Rattle.float.specs.Format.{f16, f32, f64, signIn}
 use Rattle.float.specs.Number.{Exact, notNumber, infinite, finite, isNone, times, none}
 use Rattle.float.specs.Number as float-number
 use Rattle.float.specs.Order.{patternIn}
@@ -21,16 +22,16 @@ use Rattle.value.specs.declared.Kind.{Kind}
 use Rattle.value.specs.declared.Kind.the-variants as kind
 use Rattle.value.specs.declared.Value.{Value}
 use Rattle.value.specs.declared.Value.the-variants.{U8, U16, U32, U64, I8, I16, I32, I64, F16}
-use Rattle.value.specs.Kinds.{kindOf, kindNumber, Form, floating, formOf}
+use Rattle.value.specs.Kinds.{kindOf, kindNumber, floating, formOf, isInteger}
 use Rattle.value.specs.Meaning.{exactOf, numberOf, bitsOf, stepOf, twosOf, fromTwos, f32Value, f64Value, valueOf, wordFor, floatBits}
 use Rattle.value.specs.Outcome.{Outcome, gives}
 use Rattle.value.specs.Rules.{chain}
 use Rattle.value.proofs.FloatBits.{bits-pattern}
 use Rattle.value.proofs.MadeValues.{low-bits}
 use Rattle.value.proofs.TwosComplement.{from-fits, from-twos}
-use Rattle.convert.specs.Convert.{magnitudeFor, integerFor, patternFor, intoRules, madeIn, convertOf}
+use Rattle.convert.specs.Convert.{isMinusZero, magnitudeFor, integerFor, patternFor, intoRules, madeIn, convertOf}
 use Rattle.convert.specs.Inner.{intoOf}
-use Rattle.convert.proofs.Accepted.{Accepted, rules-accept, rules-give, exactFor, made-number, made-float, unsigned-fits}
+use Rattle.convert.proofs.Accepted.{Accepted, rules-accept, rules-give, exactFor, made-same, unsigned-fits}
 use Rattle.convert.proofs.Accepted.{signed-fits, pattern-small, accepts-unsigned, accepts-signed, accepts-float}
 
 -- ---- the made value
@@ -60,7 +61,7 @@ module _ (f : language.Format) (x : Exact) (a : Accepted (floating (ownOf f)) x)
   float-of : ownPattern ≡ floatBits f (ofBits f ownPattern) (wordFor (ownOf f) ownPattern) % (2 * signIn (ownOf f))
   float-of = sym (ap (λ (n : ℕ). n % (2 * signIn (ownOf f))) float-bits ∙ mod-eq-of-lt (pattern-small (ownOf f) x a))
 
-pub made-exact : (to : Kind) (x : Exact) → Accepted (formOf to) x → exactOf (madeIn to x) ≡ exactFor (formOf to) x
+made-exact : (to : Kind) (x : Exact) → Accepted (formOf to) x → exactOf (madeIn to x) ≡ exactFor (formOf to) x
 unfolding madeIn
 made-exact kind.U8 x a = refl
 made-exact kind.U16 x a = refl
@@ -101,21 +102,22 @@ made-of-bits kind.F16 x a = ap F16 (natural-of 16 (patternFor f16 x) (pattern-sm
 
 -- ---- a value of the kind that has the number
 
-accepts : (to : Kind) (b : ℕ) (x : Exact) → isNone x ≡ false → numberOf (valueOf to b) ≡ float-number.numberOf x → Accepted (formOf to) x
+accepts : (to : Kind) (b : ℕ) (x : Exact) → isNone x ≡ false → (isMinusZero x && isInteger (formOf to)) ≡ false
+    → numberOf (valueOf to b) ≡ float-number.numberOf x → Accepted (formOf to) x
 unfolding valueOf
-accepts kind.U8 b x t h = accepts-unsigned 8 (b % 2 ^ 8) x (low-bits b 8) h
-accepts kind.U16 b x t h = accepts-unsigned 16 (b % 2 ^ 16) x (low-bits b 16) h
-accepts kind.U32 b x t h = accepts-unsigned 32 (b % 2 ^ 32) x (low-bits b 32) h
-accepts kind.U64 b x t h = accepts-unsigned 64 (b % 2 ^ 64) x (low-bits b 64) h
-accepts kind.I8 b x t h = accepts-signed 8 (fromTwos (2 ^ 7) (b % 2 ^ 8)) x (from-fits (2 ^ 7) (b % 2 ^ 8) (low-bits b 8)) h
-accepts kind.I16 b x t h = accepts-signed 16 (fromTwos (2 ^ 15) (b % 2 ^ 16)) x (from-fits (2 ^ 15) (b % 2 ^ 16) (low-bits b 16)) h
-accepts kind.I32 b x t h = accepts-signed 32 (fromTwos (2 ^ 31) (b % 2 ^ 32)) x (from-fits (2 ^ 31) (b % 2 ^ 32) (low-bits b 32)) h
-accepts kind.I64 b x t h = accepts-signed 64 (fromTwos (2 ^ 63) (b % 2 ^ 64)) x (from-fits (2 ^ 63) (b % 2 ^ 64) (low-bits b 64)) h
-accepts kind.F32 b x t h = accepts-float f32 _ x t h
-accepts kind.F64 b x t h = accepts-float f64 _ x t h
-accepts kind.F16 b x t h = accepts-float f16 _ x t h
+accepts kind.U8 b x t z h = accepts-unsigned 8 (b % 2 ^ 8) x (sym (and-true _) ∙ z) (low-bits b 8) h
+accepts kind.U16 b x t z h = accepts-unsigned 16 (b % 2 ^ 16) x (sym (and-true _) ∙ z) (low-bits b 16) h
+accepts kind.U32 b x t z h = accepts-unsigned 32 (b % 2 ^ 32) x (sym (and-true _) ∙ z) (low-bits b 32) h
+accepts kind.U64 b x t z h = accepts-unsigned 64 (b % 2 ^ 64) x (sym (and-true _) ∙ z) (low-bits b 64) h
+accepts kind.I8 b x t z h = accepts-signed 8 (fromTwos (2 ^ 7) (b % 2 ^ 8)) x (sym (and-true _) ∙ z) (from-fits (2 ^ 7) (b % 2 ^ 8) (low-bits b 8)) h
+accepts kind.I16 b x t z h = accepts-signed 16 (fromTwos (2 ^ 15) (b % 2 ^ 16)) x (sym (and-true _) ∙ z) (from-fits (2 ^ 15) (b % 2 ^ 16) (low-bits b 16)) h
+accepts kind.I32 b x t z h = accepts-signed 32 (fromTwos (2 ^ 31) (b % 2 ^ 32)) x (sym (and-true _) ∙ z) (from-fits (2 ^ 31) (b % 2 ^ 32) (low-bits b 32)) h
+accepts kind.I64 b x t z h = accepts-signed 64 (fromTwos (2 ^ 63) (b % 2 ^ 64)) x (sym (and-true _) ∙ z) (from-fits (2 ^ 63) (b % 2 ^ 64) (low-bits b 64)) h
+accepts kind.F32 b x t z h = accepts-float f32 _ x t h
+accepts kind.F64 b x t z h = accepts-float f64 _ x t h
+accepts kind.F16 b x t z h = accepts-float f16 _ x t h
 
--- ---- the five rules
+-- ---- the six rules
 
 pub into-accepts : (to : Kind) (x : Exact) (w : Value) → intoOf to x ≡ gives w → Accepted (formOf to) x × (madeIn to x ≡ w)
 unfolding intoOf
@@ -155,33 +157,33 @@ pub same-kind : (v : Value) → convertOf v (kindOf v) ≡ gives v
 same-kind v = own-kind v (kindOf v) refl
 
 module _ (v : Value) (to : Kind) (other : kindNumber (kindOf v) ≡ kindNumber to → ⊥) where
-  -- an answer has a number; it is the value of some bits of the kind, and has that number
-  pub sound : (w : Value) → convertOf v to ≡ gives w → (numberOf v ≡ none → ⊥) × (kindOf w ≡ to) × (valueOf to (bitsOf w) ≡ w) × (numberOf w ≡ numberOf v)
+  -- no integer kind has minus zero
+  abbrev signLost : Bool
+  signLost = isMinusZero (exactOf v) && isInteger (formOf to)
+
+  -- an answer has a number, and no sign is lost; it is the value of some bits of the kind, and stands for the same
+  pub sound : (w : Value) → convertOf v to ≡ gives w
+      → (numberOf v ≡ none → ⊥) × (signLost ≡ false) × (kindOf w ≡ to) × (valueOf to (bitsOf w) ≡ w) × (exactOf w ≡ exactOf v)
   sound w h =
       let a = into-accepts to (exactOf v) w (sym (other-kind v to other) ∙ h) in (
         is-none (exactOf v) (a .0 .some-number),
+        a .0 .no-minus-zero,
         ap kindOf (sym (a .1)) ∙ made-kind to (exactOf v),
         subst (λ (u : Value). valueOf to (bitsOf u) ≡ u) (a .1) (sym (made-of-bits to (exactOf v) (a .0))),
-        ap numberOf (sym (a .1)) ∙ ap float-number.numberOf (made-exact to (exactOf v) (a .0)) ∙ made-number (formOf to) (exactOf v) (a .0),
+        ap exactOf (sym (a .1)) ∙ made-exact to (exactOf v) (a .0) ∙ made-same (formOf to) (exactOf v) (a .0),
       )
 
-  -- where some bits of the kind have the number, there is an answer
-  pub complete : (b : ℕ) → (numberOf v ≡ none → ⊥) → numberOf (valueOf to b) ≡ numberOf v → convertOf v to ≡ gives (madeIn to (exactOf v))
-  complete b n h = other-kind v to other ∙ into-gives to (exactOf v) (accepts to b (exactOf v) (none-is (exactOf v) n) h)
+  -- where some bits of the kind have the number, and no sign is lost, there is an answer
+  pub complete : (b : ℕ) → (numberOf v ≡ none → ⊥) → signLost ≡ false → numberOf (valueOf to b) ≡ numberOf v
+      → convertOf v to ≡ gives (madeIn to (exactOf v))
+  complete b n z h = other-kind v to other ∙ into-gives to (exactOf v) (accepts to b (exactOf v) (none-is (exactOf v) n) z h)
 
   -- the two as one claim
-  pub exactly : (((w : Value) × (convertOf v to ≡ gives w)) → (numberOf v ≡ none → ⊥) × ((b : ℕ) × (numberOf (valueOf to b) ≡ numberOf v)))
-      × ((numberOf v ≡ none → ⊥) × ((b : ℕ) × (numberOf (valueOf to b) ≡ numberOf v)) → (w : Value) × (convertOf v to ≡ gives w))
-  exactly = (
-    λ given. let s = sound (given .0) (given .1) in (s .0, (bitsOf (given .0), ap numberOf (s .2) ∙ s .3)),
-    λ has. (madeIn to (exactOf v), complete (has .1 .0) (has .0) (has .1 .1)),
-  )
+  abbrev Holds : Type 0
+  Holds = (numberOf v ≡ none → ⊥) × (signLost ≡ false) × ((b : ℕ) × (numberOf (valueOf to b) ≡ numberOf v))
 
-  -- to a float kind the sign of a zero is kept too
-  pub kept : (f : Format) → formOf to ≡ floating f → (w : Value) → convertOf v to ≡ gives w → exactOf w ≡ exactOf v
-  kept f q w h =
-      let a = into-accepts to (exactOf v) w (sym (other-kind v to other) ∙ h) in
-      ap exactOf (sym (a .1))
-      ∙ made-exact to (exactOf v) (a .0)
-      ∙ ap (λ (g : Form). exactFor g (exactOf v)) q
-      ∙ made-float f (exactOf v) (subst (λ (g : Form). Accepted g (exactOf v)) q (a .0))
+  pub exactly : (((w : Value) × (convertOf v to ≡ gives w)) → Holds) × (Holds → (w : Value) × (convertOf v to ≡ gives w))
+  exactly = (
+    λ given. let s = sound (given .0) (given .1) in (s .0, s .1, (bitsOf (given .0), ap numberOf (s .3) ∙ ap float-number.numberOf (s .4))),
+    λ has. (madeIn to (exactOf v), complete (has .2 .0) (has .0) (has .1) (has .2 .1)),
+  )

@@ -1,6 +1,7 @@
 pub mod Binary
 pub mod Encode
 pub mod Patterns
+pub mod MinusZero
 pub mod Accepted
 pub mod Exactly
 pub mod Infinities

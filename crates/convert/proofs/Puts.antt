@@ -1,6 +1,6 @@
--- What a target finds and the value that it makes of it are the five rules and the value of the definition.
+-- What a target finds and the value that it makes of it are the six rules and the value of the definition.
 use mathlib.Core.Path.{_≡_, refl, sym, _∙_, ap, subst}
-use mathlib.Core.Bool.{Bool, true, false, not, _&&_}
+use mathlib.Core.Bool.{Bool, true, false, not, _&&_, and-true, and-false}
 use Prim.Native.Nat.{ℕ, zero, suc, _+_, _-_, _*_, _/_, _%_, _^_, _<_}
 use native.Mathlib.Omega.{arith}
 use lib.Dec.{eqb, ltb}
@@ -20,7 +20,7 @@ use Rattle.value.specs.Rules.{chain}
 use Rattle.value.proofs.Rules.{chain-mapped}
 use Rattle.convert.specs.declared.Fitted.{Fitted}
 use Rattle.convert.specs.declared.Fitted.the-variants as fitted
-use Rattle.convert.specs.Convert.{encodeOf, heldIn, hasFraction, outside, intoRules, signFor, magnitudeFor, absFor, madeIn}
+use Rattle.convert.specs.Convert.{encodeOf, heldIn, isMinusZero, hasFraction, outside, intoRules, signFor, magnitudeFor, absFor, madeIn}
 use Rattle.convert.specs.Inner.{intoOf, fittedOutcome, wholeIn, floatIn, findIn, FitsIn, makeIn}
 use Rattle.convert.proofs.Accepted.{Accepted, rules-accept, unsigned-fits, signed-fits, abs-small}
 
@@ -33,27 +33,26 @@ numberFor (floating f) x = absFor f x
 
 -- ---- the rules by the cases of the number
 
-whole-rules : {A : Type 0} (t u : Bool) (a : A)
-    → refuseIf t 3 0 (refuseIf u 4 0 (gives a)) ≡ refuseIf (t && true) 3 0 (refuseIf u 4 0 (refuseIf false 5 0 (gives a)))
-whole-rules true u a = refl
-whole-rules false u a = refl
+whole-rules : {A : Type 0} (z t u : Bool) (a : A)
+    → refuseIf z 13 0 (refuseIf t 3 0 (refuseIf u 4 0 (gives a)))
+    ≡ refuseIf (z && true) 13 0 (refuseIf (t && true) 3 0 (refuseIf u 4 0 (refuseIf false 5 0 (gives a))))
+whole-rules z t u a = simp (and-true z, and-true t)
 
-float-rules : {A : Type 0} (t u v : Bool) (a : A)
-    → refuseIf u 4 0 (refuseIf v 5 0 (gives a)) ≡ refuseIf (t && false) 3 0 (refuseIf u 4 0 (refuseIf v 5 0 (gives a)))
-float-rules true u v a = refl
-float-rules false u v a = refl
+float-rules : {A : Type 0} (z t u v : Bool) (a : A)
+    → refuseIf u 4 0 (refuseIf v 5 0 (gives a)) ≡ refuseIf (z && false) 13 0 (refuseIf (t && false) 3 0 (refuseIf u 4 0 (refuseIf v 5 0 (gives a))))
+float-rules z t u v a = simp (and-false z, and-false t)
 
 find-unsigned : (k : ℕ) (x : Exact) → wholeIn 0 (2 ^ k - 1) x ≡ chain (intoRules (unsigned k) x) (gives (signFor x, magnitudeFor x))
 unfolding wholeIn
 find-unsigned k notNumber = refl
 find-unsigned k (infinite s) = refl
-find-unsigned k (finite s m) = whole-rules (not (eqb (m % unit) 0)) (outside 0 (2 ^ k - 1) s (m / unit)) (s, m / unit)
+find-unsigned k (finite s m) = whole-rules (s && eqb m 0) (not (eqb (m % unit) 0)) (outside 0 (2 ^ k - 1) s (m / unit)) (s, m / unit)
 
 find-signed : (k : ℕ) (x : Exact) → wholeIn (2 ^ (k - 1)) (2 ^ (k - 1) - 1) x ≡ chain (intoRules (signed k) x) (gives (signFor x, magnitudeFor x))
 unfolding wholeIn
 find-signed k notNumber = refl
 find-signed k (infinite s) = refl
-find-signed k (finite s m) = whole-rules (not (eqb (m % unit) 0)) (outside (2 ^ (k - 1)) (2 ^ (k - 1) - 1) s (m / unit)) (s, m / unit)
+find-signed k (finite s m) = whole-rules (s && eqb m 0) (not (eqb (m % unit) 0)) (outside (2 ^ (k - 1)) (2 ^ (k - 1) - 1) s (m / unit)) (s, m / unit)
 
 find-float : (f : Format) (last : ℕ) → last ≡ 2 ^ exponentOf f - 3 → (last + 2) * 2 ^ fractionOf f ≡ infIn f → (x : Exact)
     → floatIn (fractionOf f) (stepOf f) last x ≡ chain (intoRules (floating f) x) (gives (signFor x, absFor f x))
@@ -61,7 +60,7 @@ unfolding floatIn heldIn encodeOf
 find-float f last q i notNumber = refl
 find-float f last q i (infinite s) = ap (λ (n : ℕ). gives (s, n)) i
 find-float f last q i (finite s m) =
-    rw q (float-rules (hasFraction (finite s m)) (ltb (largestIn f * stepOf f) m) (not (heldIn f m)) (s, encodeOf f m))
+    rw q (float-rules (isMinusZero (finite s m)) (hasFraction (finite s m)) (ltb (largestIn f * stepOf f) m) (not (heldIn f m)) (s, encodeOf f m))
 
 pub find-rules : (to : Kind) (x : Exact) → findIn to x ≡ chain (intoRules (formOf to) x) (gives (signFor x, numberFor (formOf to) x))
 unfolding stepOf

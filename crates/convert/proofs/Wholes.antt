@@ -1,6 +1,6 @@
--- A magnitude as a whole number of a range: a fraction is 3, then what lies outside is 4.
+-- A magnitude as a whole number of a range: minus zero is 13, a fraction 3, then what lies outside is 4.
 use mathlib.Core.Path.{_≡_, refl, sym, _∙_, ap, subst}
-use mathlib.Core.Bool.{Bool, true, false, not, cond}
+use mathlib.Core.Bool.{Bool, true, false, not, _&&_, cond}
 use Prim.Native.Nat.{ℕ, _+_, _*_, _/_, _%_, _^_, _≤_, _<_}
 use native.Mathlib.Nat.{zero-mul, zero-div, zero-mod, le-div-iff-mul-le, div-lt-iff-lt-mul, lt-of-lt-of-le}
 use native.Mathlib.Omega.{arith}
@@ -14,6 +14,7 @@ use Rattle.value.specs.Outcome.{gives, refuses}
 use Rattle.convert.specs.Convert.{outside}
 use Rattle.convert.specs.Inner.{wholeAt}
 use Rattle.convert.proofs.Binary.{size-scale, over-up}
+use Rattle.convert.proofs.MinusZero.{some-magnitude}
 
 -- ---- the range
 
@@ -40,26 +41,37 @@ module _ (m g d : ℕ) (z : 0 < m) where
 
 -- ---- the ways out
 
-module _ (low high : ℕ) (s : Bool) (m : ℕ) where
+module _ (low high : ℕ) (s : Bool) (m : ℕ) (some : 0 < m) where
+  no-zero : (s && eqb m 0) ≡ false
+  no-zero = some-magnitude s m some
+
   pub whole-fraction : not (eqb (m % unit) 0) ≡ true → refuses 3 0 ≡ wholeAt low high s m
-  whole-fraction h = simp h
+  whole-fraction h = simp (no-zero, h)
 
   module _ (h : not (eqb (m % unit) 0) ≡ false) where
     pub whole-outside : cond s low high < m / unit → refuses 4 0 ≡ wholeAt low high s m
-    whole-outside l = simp (h, limit-is low high s (m / unit), lt-ltb _ _ l)
+    whole-outside l = simp (no-zero, h, limit-is low high s (m / unit), lt-ltb _ _ l)
 
     pub whole-inside : m / unit ≤ cond s low high → gives (s, m / unit) ≡ wholeAt low high s m
-    whole-inside l = simp (h, limit-is low high s (m / unit), le-ltb _ _ l)
+    whole-inside l = simp (no-zero, h, limit-is low high s (m / unit), le-ltb _ _ l)
 
-pub whole-zero : (low high : ℕ) (s : Bool) (m g : ℕ) → m ≡ 0 → gives (s, 0) ≡ wholeAt low high s (m * 2 ^ g)
-whole-zero low high s m g e =
-    let q : m * 2 ^ g ≡ 0 = rw e (zero-mul (2 ^ g)) in
-    let r : 0 / unit ≡ 0 = zero-div unit in
-    rw q (ap (λ (n : ℕ). gives (s, n)) (sym r) ∙ whole-inside low high s 0 (ap not (eq-eqb (0 % unit) 0 (zero-mod unit))) (rw r (omega arith)))
+-- of a zero the sign decides
+module _ (low high m g : ℕ) (e : m ≡ 0) where
+  nothing : m * 2 ^ g ≡ 0
+  nothing = rw e (zero-mul (2 ^ g))
+
+  pub whole-minus-zero : refuses 13 0 ≡ wholeAt low high true (m * 2 ^ g)
+  whole-minus-zero = rw nothing refl
+
+  pub whole-plus-zero : gives (false, 0) ≡ wholeAt low high false (m * 2 ^ g)
+  whole-plus-zero =
+      let r : 0 / unit ≡ 0 = zero-div unit in
+      rw nothing (ap (λ (n : ℕ). gives (false, n)) (sym r) ∙ simp (eq-eqb (0 % unit) 0 (zero-mod unit), le-ltb high (0 / unit) (rw r (omega arith))))
 
 below-large : (low high : ℕ) (s : Bool) {n : ℕ} → low < 2 ^ 64 → high < 2 ^ 64 → 2 ^ 64 ≤ n → cond s low high < n
 below-large low high true l h g = lt-of-lt-of-le l g
 below-large low high false l h g = lt-of-lt-of-le h g
 
-pub whole-large : (low high : ℕ) (s : Bool) (m : ℕ) → low < 2 ^ 64 → high < 2 ^ 64 → m % unit ≡ 0 → 2 ^ 64 ≤ m / unit → refuses 4 0 ≡ wholeAt low high s m
-whole-large low high s m l h z g = whole-outside low high s m (ap not (eq-eqb _ _ z)) (below-large low high s l h g)
+pub whole-large : (low high : ℕ) (s : Bool) (m : ℕ) → 0 < m → low < 2 ^ 64 → high < 2 ^ 64 → m % unit ≡ 0 → 2 ^ 64 ≤ m / unit
+    → refuses 4 0 ≡ wholeAt low high s m
+whole-large low high s m some l h z g = whole-outside low high s m some (ap not (eq-eqb _ _ z)) (below-large low high s l h g)

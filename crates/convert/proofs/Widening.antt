@@ -5,7 +5,7 @@ use mathlib.Core.Bool.{Bool, true, false, not, and-false, true≢false}
 use Prim.Native.Nat.{ℕ, zero, suc, _+_, _-_, _*_, _/_, _%_, _^_, _≤_, _<_}
 use native.Mathlib.Nat.{add-comm, lt-of-lt-of-le, mul-assoc, mul-lt-mul-of-pos-right, mod-lt, div-lt-iff-lt-mul, pow-suc}
 use native.Mathlib.Omega.{arith}
-use borrow.Author.Tests.{leb-true, le-ltb}
+use borrow.Author.Tests.{leb-true, le-leb, le-ltb}
 use lib.IntN.{ℤ, pos, negsuc, natAbs}
 use lib.Ieee.{size}
 use lib.Ieee.Digits.{size-le}
@@ -23,11 +23,12 @@ use Rattle.value.specs.Meaning.{Content, natural, integer, real, contentOf, InR
 use Rattle.value.specs.Outcome.{gives}
 use Rattle.value.proofs.TwosComplement.{fits-below}
 use Rattle.value.proofs.Ranges.{formIn, content-form, Ranged, content-ranged}
-use Rattle.convert.specs.Convert.{hasFraction, heldIn, encodeOf, madeIn, convertOf}
+use Rattle.convert.specs.Convert.{isMinusZero, hasFraction, heldIn, encodeOf, madeIn, convertOf}
 use Rattle.convert.specs.Widening.{widens}
 use Rattle.convert.proofs.Binary.{over-up}
 use Rattle.convert.proofs.Holds.{held-when, exact-within}
-use Rattle.convert.proofs.Accepted.{Accepted, accepts-unsigned, accepts-signed}
+use Rattle.convert.proofs.MinusZero.{integer-signless}
+use Rattle.convert.proofs.Accepted.{Accepted, infinity-accepted, accepts-unsigned, accepts-signed}
 use Rattle.convert.proofs.Exactly.{none-is, into-gives, other-kind}
 
 -- ---- a number of few digits, in a float format
@@ -72,6 +73,7 @@ module _ (f : Format) (s : Bool) (q j d : ℕ) (few : q < 2 ^ d) (short : d ≤ 
   few-accepted = record {
     some-number = refl;
     no-infinity = refl;
+    no-minus-zero = and-false (isMinusZero (finite s (q * 2 ^ j)));
     no-fraction = and-false (hasFraction (finite s (q * 2 ^ j)));
     in-range = le-ltb _ _ within-largest;
     held = ap not is-held;
@@ -130,7 +132,7 @@ module _ (f g : Format) (longer : fractionOf f ≤ fractionOf g) (finer : stepBi
         (fields-accepted (negativeOf p e c) (absOf p e c / 2 ^ p) (absOf p e c % 2 ^ p) field (mod-lt (absOf p e c) (pow-pos p)))
     | inr (inl q) ↦
         subst (λ (x : Exact). Accepted (floating g) (times (stepOf f) x)) (sym (pattern-infinite p e c q))
-        (record { some-number = refl; no-infinity = refl; no-fraction = refl; in-range = refl; held = refl })
+        (infinity-accepted g (negativeOf p e c))
     | inr (inr n) ↦ absurd (true≢false (ap (λ (x : Exact). isNone (times (stepOf f) x)) (sym (pattern-nan p e c n)) ∙ t))
   ]
 
@@ -148,14 +150,14 @@ longer-wider f64 f64 h = (omega arith, omega arith)
 
 room : (from to : Form) (x : Exact) → Holds from x → widens from to ≡ true → isNone x ≡ false → Accepted to x
 room (unsigned j) (unsigned k) x h w t =
-    subst (Accepted (unsigned k)) (sym (h .2)) (accepts-unsigned k (h .0) _ (lt-of-lt-of-le (h .1) (pow-mono (leb-true j k w))) refl)
+    subst (Accepted (unsigned k)) (sym (h .2)) (accepts-unsigned k (h .0) _ refl (lt-of-lt-of-le (h .1) (pow-mono (leb-true j k w))) refl)
 room (unsigned j) (signed k) x h w t =
-    subst (Accepted (signed k)) (sym (h .2)) (accepts-signed k (pos (h .0)) _ (lt-of-lt-of-le (h .1) (pow-mono (leb-true j (k - 1) w))) refl)
+    subst (Accepted (signed k)) (sym (h .2)) (accepts-signed k (pos (h .0)) _ refl (lt-of-lt-of-le (h .1) (pow-mono (leb-true j (k - 1) w))) refl)
 room (unsigned j) (floating f) x h w t = subst (Accepted (floating f)) (sym (h .2)) (whole-accepted f false (h .0) j (h .1) (leb-true _ _ w))
 room (signed j) (unsigned k) x h w t = absurd (true≢false (sym w))
 room (signed j) (signed k) x h w t =
     let l : j ≤ k = leb-true j k w in
-    subst (Accepted (signed k)) (sym (h .2)) (accepts-signed k (h .0) _ (lt-of-lt-of-le (h .1) (pow-mono (omega arith))) refl)
+    subst (Accepted (signed k)) (sym (h .2)) (accepts-signed k (h .0) _ (integer-signless (h .0)) (lt-of-lt-of-le (h .1) (pow-mono (omega arith))) refl)
 room (signed j) (floating f) x h w t =
     let l : j ≤ suc (fractionOf f) = leb-true _ _ w in
     subst (Accepted (floating f)) (sym (h .2)) (integer-accepted f (h .0) (suc (j - 1)) (abs-few (h .0) (j - 1) (h .1)) (omega arith))
@@ -173,11 +175,23 @@ holds-in (natural k n) r = (n, r, refl)
 holds-in (integer k z) r = (z, fits-below (2 ^ (k - 1)) z r, refl)
 holds-in (real f b) r = (b, refl)
 
+-- a kind with room for every number of the value's own has it
+pub has-room : (v : Value) (to : Kind) → InRange v → widens (formOf (kindOf v)) (formOf to) ≡ true → (numberOf v ≡ none → ⊥) → Accepted (formOf to) (exactOf v)
+has-room v to r h n =
+    let holds = subst (λ (form : Form). Holds form (exactOf v)) (content-form v) (holds-in (contentOf v) (content-ranged v r)) in
+    room (formOf (kindOf v)) (formOf to) (exactOf v) holds h (none-is (exactOf v) n)
+
+-- as its own has
+own-room : (form : Form) → widens form form ≡ true
+own-room (unsigned k) = le-leb k k (omega arith)
+own-room (signed k) = le-leb k k (omega arith)
+own-room (floating f) = le-leb (fractionOf f) (fractionOf f) (omega arith)
+
+pub own-accepted : (v : Value) → InRange v → (numberOf v ≡ none → ⊥) → Accepted (formOf (kindOf v)) (exactOf v)
+own-accepted v r n = has-room v (kindOf v) r (own-room (formOf (kindOf v))) n
+
 -- a widening conversion refuses nothing but a NaN
 pub widened : (v : Value) (to : Kind) → InRange v → (kindNumber (kindOf v) ≡ kindNumber to → ⊥)
     → widens (formOf (kindOf v)) (formOf to) ≡ true → (numberOf v ≡ none → ⊥)
     → (w : Value) × (convertOf v to ≡ gives w)
-widened v to r d h n =
-    let holds = subst (λ (form : Form). Holds form (exactOf v)) (content-form v) (holds-in (contentOf v) (content-ranged v r)) in
-    let a : Accepted (formOf to) (exactOf v) = room (formOf (kindOf v)) (formOf to) (exactOf v) holds h (none-is (exactOf v) n) in
-    (madeIn to (exactOf v), other-kind v to d ∙ into-gives to (exactOf v) a)
+widened v to r d h n = (madeIn to (exactOf v), other-kind v to d ∙ into-gives to (exactOf v) (has-room v to r h n))

@@ -1,4 +1,4 @@
--- Exact conversion, all ordered pairs of kinds: five rules in their order, and the value that has the number. RULES.md: Exact conversion.
+-- Exact conversion, all ordered pairs of kinds: six rules in their order, and the value that has the number. RULES.md: Exact conversion.
 use Prim.Native.Nat.{ℕ, suc, _+_, _-_, _*_, _/_, _%_, _^_}
 use mathlib.Core.Bool.{Bool, true, false, not, _&&_, cond}
 use mathlib.Core.List.{List, [], _∷_}
@@ -44,6 +44,12 @@ abbrev pub isInfinite : Exact → Bool
 isInfinite notNumber = false
 isInfinite (infinite s) = true
 isInfinite (finite s m) = false
+
+-- 13: minus zero, to an integer kind
+abbrev pub isMinusZero : Exact → Bool
+isMinusZero notNumber = false
+isMinusZero (infinite s) = false
+isMinusZero (finite s m) = s && eqb m 0
 
 -- 3: a finite number with a fraction, to an integer kind
 abbrev pub hasFraction : Exact → Bool
@@ -133,6 +139,7 @@ abbrev pub intoRules : Form → Exact → List Rule
 intoRules form x =
     rule 1 0 (isNone x)
     ∷ rule 2 0 (isInfinite x && isInteger form)
+    ∷ rule 13 0 (isMinusZero x && isInteger form)
     ∷ rule 3 0 (hasFraction x && isInteger form)
     ∷ rule 4 0 (outOfRange form x)
     ∷ rule 5 0 (notHeld form x)
@@ -142,7 +149,7 @@ intoRules form x =
 abbrev pub ownKind : Value → Kind → Bool
 ownKind v to = eqb (kindNumber (kindOf v)) (kindNumber to)
 
--- to its own kind no rule; to another 1, 2, 3, 4, 5
+-- to its own kind no rule; to another 1, 2, 13, 3, 4, 5
 abbrev pub convertRules : Value → Kind → List Rule
 convertRules v to = cond (ownKind v to) [] (intoRules (formOf to) (exactOf v))
 

@@ -1,7 +1,7 @@
 -- Nothing in this file has to be believed: it says what private functions compute, and no public contract or theorem reaches it.
 -- A magnitude, in units of 2^-1074, is m * 2^g in the code: no machine number holds it as one.
 use Prim.Native.Nat.{ℕ, suc, _+_, _-_, _*_, _/_, _%_, _^_, _<_}
-use mathlib.Core.Bool.{Bool, not, cond}
+use mathlib.Core.Bool.{Bool, not, _&&_, cond}
 use lib.Dec.{eqb, ltb}
 use lib.Signed.{mag}
 use Rattle.float.specs.Format.{f16, f32, f64, magOf, signIn}
@@ -38,9 +38,10 @@ fittedOutcome (fitted.Refused k) = refuses k 0
 -- an integer kind whose numbers go from -low to high: the sign and the magnitude
 abbrev pub wholeAt : ℕ → ℕ → Bool → ℕ → Outcome (Bool × ℕ)
 wholeAt low high s m =
-    refuseIf (not (eqb (m % unit) 0)) 3 0
+    refuseIf (s && eqb m 0) 13 0
+    (refuseIf (not (eqb (m % unit) 0)) 3 0
     (refuseIf (outside low high s (m / unit)) 4 0
-    (gives (s, m / unit)))
+    (gives (s, m / unit))))
 
 unfoldable pub wholeIn : ℕ → ℕ → Exact → Outcome (Bool × ℕ)
 wholeIn low high notNumber = refuses 1 0

@@ -1,5 +1,5 @@
 -- The definitions of this crate, in the order to read them.
--- exact conversion: five rules in their order, and the value that has the number
+-- exact conversion: six rules in their order, and the value that has the number
 pub mod Convert
 -- which form has room for every number of another
 pub mod Widening

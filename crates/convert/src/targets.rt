@@ -17,12 +17,15 @@ use value::Kind;
 use value::Refusal;
 use value::Value;
 
-// A finite number, m * 2^g units, as a whole number from -low to high. From 2^64 on there is no fraction left.
+// A finite number, m * 2^g units, as a whole number from -low to high; minus zero is none. From 2^64 on there is no fraction left.
 fn whole(s: bool, m: u64, g: u16, low: u64, high: u64) -> Fitted
     ensures { λ r. ⌜ fittedOutcome r ≡ wholeAt low high s (m * 2 ^ g) ⌝ }
 {
     if m == 0 {
-        return Fitted::Is(s, 0);
+        if s {
+            return Fitted::Refused(13);
+        }
+        return Fitted::Is(false, 0);
     }
     if size_of(m) as u64 + g as u64 > 1138 {
         return Fitted::Refused(4);

@@ -30,12 +30,13 @@ use Rattle.value.proofs.Units.{unit-pos}
 use Rattle.value.proofs.TwosComplement.{fits-below}
 use Rattle.value.proofs.MadeValues.{value-bits, value-kind}
 use Rattle.value.proofs.Ranges.{formIn, content-form, Ranged, content-ranged, made-in-range}
-use Rattle.convert.specs.Convert.{outside, outOfForm, outOfRange, encodeOf, heldIn, withSign}
+use Rattle.convert.specs.Convert.{isMinusZero, outside, outOfForm, outOfRange, encodeOf, heldIn, withSign}
 use Rattle.convert.proofs.Accepted.{Accepted, accepts-unsigned, accepts-signed, accepts-float}
 use Rattle.convert.proofs.Encode.{held-of}
+use Rattle.convert.proofs.MinusZero.{some-magnitude}
 use Rattle.convert.proofs.Patterns.{made-small, encode-below, finite-made}
 use Rattle.convert.proofs.Wholes.{limit-is}
-use Rattle.demands.specs.Conversion.{HoldsNumberOf}
+use Rattle.demands.specs.Conversion.{HasPattern}
 use Rattle.demands.specs.WhichRefusal.{EachIs, Beyond}
 
 -- ---- past the ends
@@ -59,7 +60,7 @@ quotient-less m n h =
     let l : n < m / unit * unit = div-lt-iff-lt-mul {k = unit} {x = n} {y = m / unit} unit-pos .0 h in
     omega (arith, div-add-mod' m unit)
 
-quotient-pos : (m : ℕ) → 0 < m / unit → 0 < m
+pub quotient-pos : (m : ℕ) → 0 < m / unit → 0 < m
 quotient-pos m h = quotient-less m 0 (subst (λ (n : ℕ). n < m / unit) (sym (zero-div unit)) h)
 
 past-outside : (low high : ℕ) (s t : Bool) (m n : ℕ) → outside low high t (n / unit) ≡ false → outside low high s (m / unit) ≡ true
@@ -82,22 +83,24 @@ past-ends (floating f) s t m n h g =
 
 -- ---- every number of a kind is let in
 
-content-in : (c : Content) (x : Exact) → Ranged c → isNone x ≡ false → numberOf (exactIn c) ≡ numberOf x → Accepted (formIn c) x
-content-in (natural k n) x r t h = accepts-unsigned k n x r h
-content-in (integer k z) x r t h = accepts-signed k z x (fits-below (2 ^ (k - 1)) z r) h
-content-in (real f b) x r t h = accepts-float f _ x t h
+content-in : (c : Content) (x : Exact) → Ranged c → isNone x ≡ false → isMinusZero x ≡ false → numberOf (exactIn c) ≡ numberOf x → Accepted (formIn c) x
+content-in (natural k n) x r t z h = accepts-unsigned k n x z r h
+content-in (integer k i) x r t z h = accepts-signed k i x z (fits-below (2 ^ (k - 1)) i r) h
+content-in (real f b) x r t z h = accepts-float f _ x t h
 
 made-form : (to : Kind) (b : ℕ) → formIn (contentOf (valueOf to b)) ≡ formOf to
 made-form to b = content-form (valueOf to b) ∙ ap formOf (value-kind to b)
 
-made-in : (to : Kind) (b : ℕ) (x : Exact) → isNone x ≡ false → value.numberOf (valueOf to b) ≡ numberOf x → outOfRange (formOf to) x ≡ false
-made-in to b x t h =
-    let accepted = content-in (contentOf (valueOf to b)) x (content-ranged (valueOf to b) (made-in-range to b)) t h in
+made-in : (to : Kind) (b : ℕ) (x : Exact) → isNone x ≡ false → isMinusZero x ≡ false → value.numberOf (valueOf to b) ≡ numberOf x
+    → outOfRange (formOf to) x ≡ false
+made-in to b x t z h =
+    let accepted = content-in (contentOf (valueOf to b)) x (content-ranged (valueOf to b) (made-in-range to b)) t z h in
     subst (λ (form : Form). outOfRange form x ≡ false) (made-form to b) (accepted .in-range)
 
 each-past : (to : Kind) (s : Bool) (m : ℕ) → outOfForm (formOf to) s m ≡ true → EachIs (cond s Greater Less) to (number (signedOf s m))
-each-past to s m g b (pos n) h = past-ends (formOf to) s false m n (made-in to b (finite false n) refl h) g
-each-past to s m g b (negsuc n) h = past-ends (formOf to) s true m (suc n) (made-in to b (finite true (suc n)) refl h) g
+each-past to s m g b (pos n) h = past-ends (formOf to) s false m n (made-in to b (finite false n) refl refl h) g
+each-past to s m g b (negsuc n) h =
+    past-ends (formOf to) s true m (suc n) (made-in to b (finite true (suc n)) refl (some-magnitude true (suc n) (omega arith)) h) g
 
 pub past-beyond : (to : Kind) (s : Bool) (m : ℕ) → outOfForm (formOf to) s m ≡ true → Beyond (number (signedOf s m)) to
 past-beyond to false m g = inl (each-past to false m g)
@@ -105,9 +108,9 @@ past-beyond to true m g = inr (each-past to true m g)
 
 -- ---- a number that the kind has is not beyond
 
-pub held-not-beyond : (v : Value) (to : Kind) (z : ℤ) → value.numberOf v ≡ number z → HoldsNumberOf v to → Beyond (value.numberOf v) to → ⊥
-held-not-beyond v to z q h (inl each) = clash (cc (each (h .1 .0) z (h .1 .1 ∙ q), q, integer-equal z))
-held-not-beyond v to z q h (inr each) = clash (cc (each (h .1 .0) z (h .1 .1 ∙ q), q, integer-equal z))
+pub held-not-beyond : (v : Value) (to : Kind) (z : ℤ) → value.numberOf v ≡ number z → HasPattern v to → Beyond (value.numberOf v) to → ⊥
+held-not-beyond v to z q h (inl each) = clash (cc (each (h .0) z (h .1 ∙ q), q, integer-equal z))
+held-not-beyond v to z q h (inr each) = clash (cc (each (h .0) z (h .1 ∙ q), q, integer-equal z))
 
 -- ---- a float kind reaches its largest magnitude with both signs
 

@@ -3,7 +3,7 @@ use Prim.Native.Nat.{ℕ, _*_, _%_, _^_, _<_}
 use mathlib.Core.Path.{_≡_}
 use mathlib.Core.Logic.{_↔_}
 use mathlib.Core.Bool.{Bool, true, false}
-use Rattle.float.specs.Format.{Format, magIn}
+use Rattle.float.specs.Format.{Format, magIn, signIn}
 use Rattle.float.specs.Number.{infinite, finite, notNumber, none}
 use Rattle.half.specs.Small.{IsOver}
 use Rattle.value.specs.declared.Kind.{Kind}
@@ -16,15 +16,23 @@ use Rattle.value.specs.Outcome.{gives, refuses}
 use Rattle.convert.specs.Convert.{convertOf, heldIn}
 use Rattle.convert.specs.Widening.{widens}
 
--- ---- "Conversion between different kinds succeeds exactly when the target holds the same number"
+-- ---- "Conversion between different kinds succeeds exactly when the target holds the same number", to an integer kind "and not minus zero"
 
 -- the kind is not the value's own
 abbrev pub Other : Value → Kind → Type 0
 Other v to = kindOf v ≡ to → ⊥
 
--- the value has a number, and some pattern of the kind has it too
+-- a zero with a minus sign
+abbrev pub IsMinusZero : Value → Type 0
+IsMinusZero v = exactOf v ≡ finite true 0
+
+-- some pattern of the kind has the value's number
+abbrev pub HasPattern : Value → Kind → Type 0
+HasPattern v to = (b : ℕ) × (numberOf (valueOf to b) ≡ numberOf v)
+
+-- the value has a number, some pattern of the kind has it too, and it isn't minus zero to an integer kind
 abbrev pub HoldsNumberOf : Value → Kind → Type 0
-HoldsNumberOf v to = (numberOf v ≡ none → ⊥) × ((b : ℕ) × (numberOf (valueOf to b) ≡ numberOf v))
+HoldsNumberOf v to = (numberOf v ≡ none → ⊥) × HasPattern v to × (isInteger (formOf to) ≡ true → IsMinusZero v → ⊥)
 
 -- some pattern of the second kind has the number of each pattern of the first that is no NaN
 abbrev pub HoldsAllOf : Kind → Kind → Type 0
@@ -40,8 +48,13 @@ pub record Conversion : Type 0 where
   pub none-hidden : (v : Value) (to : Kind) → Other v to → (n p : ℕ) → convertOf v to ≡ refuses n p → HoldsNumberOf v to → ⊥
   -- a float format holds a magnitude, its range aside, exactly when some abs has that magnitude
   pub held-means : (f : Format) (m : ℕ) → (heldIn f m ≡ true) ↔ ((a : ℕ) × (magIn f a * stepOf f ≡ m))
-  -- between float kinds infinities and zeros keep their sign
-  pub sign-kept : (v : Value) (to : Kind) (f : Format) → Other v to → formOf to ≡ floating f → (w : Value) → convertOf v to ≡ gives w → exactOf w ≡ exactOf v
+  -- infinities and zeros keep their sign
+  pub sign-kept : (v : Value) (to : Kind) → Other v to → (w : Value) → convertOf v to ≡ gives w → exactOf w ≡ exactOf v
+  -- minus zero is a float whose sign bit is set and no other
+  pub minus-zero-means : (v : Value) → IsMinusZero v ↔ ((f : Format) × (formOf (kindOf v) ≡ floating f) × (bitsOf v ≡ signIn f))
+  -- it passes between float kinds
+  pub minus-zero-passes : (v : Value) (to : Kind) (f : Format) → Other v to → IsMinusZero v → formOf to ≡ floating f
+      → (w : Value) × (convertOf v to ≡ gives w) × IsMinusZero w
   -- "infinities pass only between float kinds, NaN never"
   pub infinity-passes : (v : Value) (to : Kind) (s : Bool) (f : Format) → Other v to → exactOf v ≡ infinite s → formOf to ≡ floating f
       → (w : Value) × (convertOf v to ≡ gives w) × (exactOf w ≡ infinite s)
@@ -54,9 +67,9 @@ pub record Conversion : Type 0 where
   -- and to such a kind nothing but a NaN is refused
   pub widened : (v : Value) (to : Kind) → InRange v → Other v to → widens (formOf (kindOf v)) (formOf to) ≡ true → (numberOf v ≡ none → ⊥)
       → (w : Value) × (convertOf v to ≡ gives w)
-  -- there and back is the same bits, but for a minus zero through an integer kind
-  pub there-and-back : (v : Value) (to : Kind) → InRange v → Other v to → (isInteger (formOf to) ≡ true → exactOf v ≡ finite true 0 → ⊥)
-      → (w : Value) → convertOf v to ≡ gives w → (u : Value) × (convertOf w (kindOf v) ≡ gives u) × (bitsOf u ≡ bitsOf v)
+  -- float to integer and back gives the same bits, and so does every other way to another kind and back
+  pub there-and-back : (v : Value) (to : Kind) → InRange v → Other v to → (w : Value) → convertOf v to ≡ gives w
+      → (u : Value) × (convertOf w (kindOf v) ≡ gives u) × (bitsOf u ≡ bitsOf v)
   -- "the number at place m is exactly m over 2^24", and an f16 with the bits m goes to the entry
   pub table-means : (m b : ℕ) → m < 1024 → IsOver m b
       → ((k : ℕ) × (exactOf (f32Value b) ≡ finite false k) × (k * 2 ^ 24 ≡ m * unit)) × (convertOf (F16 m) kind.F32 ≡ gives (f32Value b))

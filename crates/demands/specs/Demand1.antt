@@ -86,7 +86,7 @@ pub record InOrder : Type 1 where
   pub clamp : (v lower upper : Value) → numbersOf (clampRules v lower upper) ≡ 7 ∷ 6 ∷ 8 ∷ []
   pub range : (lower upper : Float) → numbersOf (boundsRules lower upper) ≡ 6 ∷ []
   pub range-clamp : (range : Range) (x : Float) → numbersOf (sampleRules range x) ≡ 6 ∷ 8 ∷ []
-  pub convert : (form : Form) (x : Exact) → numbersOf (intoRules form x) ≡ 1 ∷ 2 ∷ 3 ∷ 4 ∷ 5 ∷ []
+  pub convert : (form : Form) (x : Exact) → numbersOf (intoRules form x) ≡ 1 ∷ 2 ∷ 13 ∷ 3 ∷ 4 ∷ 5 ∷ []
   pub row : (src dst : List ℕ) → numbersOf (lengthRules src dst) ≡ 9 ∷ []
   pub compare-records : (a b : Record) → numbersOf (recordRules a b) ≡ 11 ∷ 7 ∷ []
   pub min-max-records : (a b : Record) → numbersOf (lexical.choiceRules a b) ≡ 11 ∷ 7 ∷ 8 ∷ []

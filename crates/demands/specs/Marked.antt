@@ -104,7 +104,7 @@ marked =
     ∷ case 6 (convert (f32 0x477f_ff00) kind.U16) (a-value (gives (U16 65535)))
     ∷ case 6 (convert (f32 0x4780_0000) kind.U16) (a-value (refuses 4 0))
     ∷ case 7 (convert (f32 0x3f00_0000) kind.U16) (a-value (refuses 3 0))
-    ∷ case 7 (convert (f32 0x8000_0000) kind.U16) (a-value (gives (U16 0)))
+    ∷ case 7 (convert (f32 0x8000_0000) kind.U16) (a-value (refuses 13 0))
     ∷ case 8 (convert (f64 0x36a0_0000_0000_0000) kind.F32) (a-value (gives (f32 0x0000_0001)))
     ∷ case 8 (convert (f64 0x3690_0000_0000_0000) kind.F32) (a-value (refuses 5 0))
     ∷ case 8 (convert (f64 0x47f0_0000_0000_0000) kind.F32) (a-value (refuses 4 0))

@@ -1,4 +1,4 @@
--- Which of the refusals 3, 4 and 5 a conversion gives, by the numbers alone. RULES.md: Refusals, Exact conversion.
+-- Which of the refusals 13, 3, 4 and 5 a conversion gives, by the numbers and the sign of a zero alone. RULES.md: Refusals, Exact conversion.
 use Prim.Native.Nat.{ℕ, _-_, _*_, _^_, _≤_, _<_}
 use mathlib.Core.Path.{_≡_}
 use mathlib.Core.Logic.{_↔_, _⊎_}
@@ -16,7 +16,7 @@ use Rattle.value.specs.Kinds.{Form, unsigned, signed, floating, formOf, isInteg
 use Rattle.value.specs.Meaning.{fitsSigned, wholeOf, unit, exactOf, numberOf, positionOf, valueOf}
 use Rattle.value.specs.Outcome.{gives, refuses}
 use Rattle.convert.specs.Convert.{convertOf}
-use Rattle.demands.specs.Conversion.{Other, HoldsNumberOf}
+use Rattle.demands.specs.Conversion.{Other, IsMinusZero, HoldsNumberOf}
 
 -- ---- of a number
 
@@ -45,8 +45,10 @@ Within (floating f) z = ⊥
 
 -- ---- of a conversion to another kind
 
--- each of the three is given exactly when the numbers are as its sentence says
+-- each of the four is given exactly when the value is as its sentence says
 pub record WhichRefusal : Type 0 where
+  -- 13: "minus zero to any integer kind"
+  pub thirteen : (v : Value) (to : Kind) → Other v to → (convertOf v to ≡ refuses 13 0) ↔ (IsMinusZero v × (isInteger (formOf to) ≡ true))
   -- 3: "finite float with a fraction, to an integer kind"
   pub three : (v : Value) (to : Kind) → Other v to
       → (convertOf v to ≡ refuses 3 0) ↔ (IsFinite (numberOf v) × (isInteger (formOf to) ≡ true) × (IsWhole (numberOf v) → ⊥))

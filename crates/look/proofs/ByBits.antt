@@ -1,74 +1,47 @@
--- An infinity is told by abs alone. Minus zero has the sign bit and nothing else: of every other pattern with this bit abs is above 0, and so
--- is the magnitude, which rises with it.
+-- An infinity is told by abs alone, minus zero by its one pattern.
 use mathlib.Core.Path.{_≡_, refl, sym, _∙_, ap}
-use mathlib.Core.Bool.{Bool, true, false, _&&_, _||_}
+use mathlib.Core.Bool.{Bool, true, false, _||_}
 use mathlib.Core.Logic.{inl, inr}
 use mathlib.Core.List.{[]}
-use Prim.Native.Nat.{ℕ, suc, _+_, _-_, _*_, _≤_, _<_}
-use native.Mathlib.Nat.{zero-mul}
+use Prim.Native.Nat.{ℕ, _+_, _-_, _≤_, _<_}
 use native.Mathlib.Omega.{arith}
-use borrow.Author.Tests.{lt-leb, le-leb, eq-eqb, ne-eqb}
+use borrow.Author.Tests.{eq-eqb, ne-eqb}
 use lib.Dec.{T, eqb}
 use lib.IntN.{ℤ, pos, negsuc}
 use lib.Ieee.{binary32, binary64}
 use types.Run.{OneOf}
 use denote.Enum.Declared.{tagOf}
-use Rattle.float.specs.Format.{Format, f16, f32, f64, fractionOf, exponentOf, signOf, infOf, negativeOf, absOf, infiniteOf, magOf, infIn, infiniteIn, signIn}
+use Rattle.float.specs.Format.{Format, f16, f32, f64, fractionOf, exponentOf, signOf, infOf, absOf, infiniteOf, infIn, infiniteIn, signIn}
 use Rattle.float.specs.Number as exact
 use Rattle.float.specs.Order.{patternOf}
 use Rattle.float.proofs.Naturals.{lt-or-ge, three-ways}
-use Rattle.float.proofs.Magnitude.{abs-clear, abs-set, mag-rises, mag-zero}
+use Rattle.float.proofs.Magnitude.{abs-clear, abs-set}
 use Rattle.float.proofs.Formats.{inf-range}
-use Rattle.float.proofs.Comparing.{times-rises, pattern-nan, pattern-infinite, pattern-finite}
+use Rattle.float.proofs.Comparing.{pattern-nan, pattern-infinite, pattern-finite}
 use Rattle.value.specs.declared.Value.{Value}
 use Rattle.value.specs.declared.Value.the-variants.{U8, U16, U32, U64, I8, I16, I32, I64, F32, F64, F16}
 use Rattle.value.specs.Kinds.{kindOf, allKinds, Form, unsigned, signed, floating, formOf, isInteger}
 use Rattle.value.specs.Meaning.{real, bitsOf, floatBits, exactIn, unit, stepOf, wholeOf}
 use Rattle.value.proofs.Value.{the-type}
-use Rattle.value.proofs.Units.{unit-pos, step-pos}
 use Rattle.cmp.proofs.KindTests.{keysIn, by-keys}
-use Rattle.convert.specs.Convert.{isInfinite}
+use Rattle.convert.specs.Convert.{isInfinite, isMinusZero}
+use Rattle.convert.proofs.MinusZero.{integer-signless, minus-zero-float}
 use Rattle.row.specs.Row.{any}
-use Rattle.look.specs.Report.{infinite, isMinusZero, minusZero}
+use Rattle.look.specs.Report.{infinite, minusZero}
 use Rattle.look.specs.ReportTheorem.{infinitiesIn, minusZerosIn, CountedByBits}
 
 -- ---- a pattern of a format, in units of k
 
 module _ (k p e b : ℕ) where
   -- what it stands for decides
-  meant : {x : exact.Exact} (test : exact.Exact → Bool) → patternOf p e b ≡ x → test (exact.times k (patternOf p e b)) ≡ test (exact.times k x)
-  meant test q = ap (λ (y : exact.Exact). test (exact.times k y)) q
+  meant : {x : exact.Exact} → patternOf p e b ≡ x → isInfinite (exact.times k (patternOf p e b)) ≡ isInfinite (exact.times k x)
+  meant q = ap (λ (y : exact.Exact). isInfinite (exact.times k y)) q
 
   infinite-pattern : isInfinite (exact.times k (patternOf p e b)) ≡ infiniteOf p e b
   infinite-pattern = elim (three-ways (absOf p e b) (infOf p e)) [
-    | inl l ↦ meant isInfinite (pattern-finite p e b l) ∙ sym (ne-eqb (absOf p e b) (infOf p e) (λ q. omega arith))
-    | inr (inl q) ↦ meant isInfinite (pattern-infinite p e b q) ∙ sym (eq-eqb (absOf p e b) (infOf p e) q)
-    | inr (inr g) ↦ meant isInfinite (pattern-nan p e b g) ∙ sym (ne-eqb (absOf p e b) (infOf p e) (λ q. omega arith))
-  ]
-
-  no-minus-zero : (s : Bool) → negativeOf p e b ≡ s → (s && eqb (magOf p (absOf p e b) * k) 0) ≡ false
-      → isMinusZero (exact.times k (patternOf p e b)) ≡ false
-  no-minus-zero s q h = elim (three-ways (absOf p e b) (infOf p e)) [
-    | inl l ↦ meant isMinusZero (pattern-finite p e b l) ∙ ap (λ (t : Bool). t && eqb (magOf p (absOf p e b) * k) 0) q ∙ h
-    | inr (inl i) ↦ meant isMinusZero (pattern-infinite p e b i)
-    | inr (inr g) ↦ meant isMinusZero (pattern-nan p e b g)
-  ]
-
-  minus-zero-pattern : 0 < k → 0 < infOf p e → isMinusZero (exact.times k (patternOf p e b)) ≡ eqb b (signOf p e)
-  minus-zero-pattern some h = elim (three-ways b (signOf p e)) [
-    | inl l ↦ no-minus-zero false (lt-leb (signOf p e) b l) refl ∙ sym (ne-eqb b (signOf p e) (λ q. omega arith))
-    | inr (inl q) ↦
-        let set : signOf p e ≤ b = omega arith in
-        let a : absOf p e b ≡ 0 = abs-set p e b set ∙ omega arith in
-        let zero : isMinusZero (exact.times k (exact.finite (negativeOf p e b) (magOf p (absOf p e b)))) ≡ true =
-        simp (le-leb (signOf p e) b set, a, mag-zero p, zero-mul) in
-        meant isMinusZero (pattern-finite p e b (omega arith)) ∙ zero ∙ sym (eq-eqb b (signOf p e) q)
-    | inr (inr g) ↦
-        let set : signOf p e ≤ b = omega arith in
-        let a : 0 < absOf p e b = omega (arith, abs-set p e b set) in
-        let m : 0 * k < magOf p (absOf p e b) * k = times-rises k some 0 (magOf p (absOf p e b)) (omega (arith, mag-zero p, mag-rises p 0 (absOf p e b) a)) in
-        no-minus-zero true (le-leb (signOf p e) b set) (ne-eqb (magOf p (absOf p e b) * k) 0 (λ q. omega arith))
-        ∙ sym (ne-eqb b (signOf p e) (λ q. omega arith))
+    | inl l ↦ meant (pattern-finite p e b l) ∙ sym (ne-eqb (absOf p e b) (infOf p e) (λ q. omega arith))
+    | inr (inl q) ↦ meant (pattern-infinite p e b q) ∙ sym (eq-eqb (absOf p e b) (infOf p e) q)
+    | inr (inr g) ↦ meant (pattern-nan p e b g) ∙ sym (ne-eqb (absOf p e b) (infOf p e) (λ q. omega arith))
   ]
 
 or-none : (t : Bool) → t ≡ (t || false)
@@ -96,9 +69,8 @@ module _ (f : Format) {a b : ℕ} (bits : b ≡ a) where
   pub infinite-float : infiniteIn f b ≡ isInfinite (exactIn (real f a))
   infinite-float = ap (infiniteIn f) bits ∙ sym (infinite-pattern (stepOf f) (fractionOf f) (exponentOf f) a)
 
-  pub minus-zero-float : eqb b (signIn f) ≡ isMinusZero (exactIn (real f a))
-  minus-zero-float =
-      ap (λ (n : ℕ). eqb n (signIn f)) bits ∙ sym (minus-zero-pattern (stepOf f) (fractionOf f) (exponentOf f) a (step-pos f) (inf-range f .0))
+  pub minus-zero-told : eqb b (signIn f) ≡ isMinusZero (exactIn (real f a))
+  minus-zero-told = ap (λ (n : ℕ). eqb n (signIn f)) bits ∙ sym (minus-zero-float f a)
 
 -- its two infinities and its minus zero, by their bits
 by-format : (f : Format) (b : ℕ)
@@ -106,13 +78,13 @@ by-format : (f : Format) (b : ℕ)
     × (isMinusZero (exactIn (real f b)) ≡ (eqb b (signIn f) || false))
 by-format f b = (
   sym (infinite-float f refl) ∙ infinite-bits (fractionOf f) (exponentOf f) b (inf-range f .1),
-  sym (minus-zero-float f refl) ∙ or-none (eqb b (signIn f)),
+  minus-zero-float f b ∙ or-none (eqb b (signIn f)),
 )
 
--- below 0 the magnitude is above 0
+-- an integer is neither
 neither : (z : ℤ) → (isInfinite (exact.times unit (wholeOf z)) ≡ false) × (isMinusZero (exact.times unit (wholeOf z)) ≡ false)
-neither (pos n) = (refl, refl)
-neither (negsuc n) = (refl, ne-eqb (suc n * unit) 0 (λ q. omega (arith, times-rises unit unit-pos 0 (suc n) (omega arith))))
+neither (pos n) = (refl, integer-signless (pos n))
+neither (negsuc n) = (refl, integer-signless (negsuc n))
 
 -- ---- a value
 

@@ -1,15 +1,14 @@
 -- What a report says of samples: a fold over them. RULES.md: Report.
 use Prim.Native.Nat.{ℕ, _+_}
-use mathlib.Core.Bool.{Bool, true, false, _&&_, cond}
+use mathlib.Core.Bool.{Bool, true, false, cond}
 use mathlib.Core.List.{List, [], _∷_}
 use lib.Dec.{eqb}
-use Rattle.float.specs.Number as exact
 use Rattle.value.specs.declared.Kind.{Kind}
 use Rattle.value.specs.declared.Value.{Value}
 use Rattle.value.specs.Meaning.{exactOf}
 use Rattle.value.specs.Outcome.{Outcome, gives, refuses}
 use Rattle.cmp.specs.Compare.{neOf, ltOf, gtOf}
-use Rattle.convert.specs.Convert.{isInfinite}
+use Rattle.convert.specs.Convert.{isInfinite, isMinusZero}
 use Rattle.row.specs.declared.Rowed.{Rowed}
 use Rattle.row.specs.declared.Rowed.the-variants as rowed
 use Rattle.look.specs.declared.Found.{Found}
@@ -32,12 +31,6 @@ unlikeItself v = says (neOf v v)
 -- a value that is an infinity, plus or minus
 abbrev pub infinite : Value → Bool
 infinite v = isInfinite (exactOf v)
-
--- a zero with a minus sign
-abbrev pub isMinusZero : exact.Exact → Bool
-isMinusZero exact.notNumber = false
-isMinusZero (exact.infinite s) = false
-isMinusZero (exact.finite s m) = s && eqb m 0
 
 -- a value that is minus zero
 abbrev pub minusZero : Value → Bool

@@ -16,6 +16,7 @@ pub(crate) fn put_why(number: u8) {
         10 => put_text(b"the buffer is shorter than the key"),
         11 => put_text(b"a record has 1 to 12 fields"),
         12 => put_text(b"no record has this key"),
+        13 => put_text(b"minus zero, the mark of a masked pixel, has no place in an integer kind"),
         _ => put_text(b"a refusal that has no sentence here"),
     }
     put_text(b"\n");

@@ -1,5 +1,5 @@
 -- One u16 sample into f32: the language's cast has the number.
-use mathlib.Core.Path.{_≡_, sym, _∙_, ap}
+use mathlib.Core.Path.{_≡_, refl, sym, _∙_, ap}
 use mathlib.Core.Bool.{Bool, true, false, cond}
 use Prim.Native.Nat.{ℕ, _*_, _^_, _<_}
 use native.Mathlib.Omega.{arith}
@@ -75,6 +75,6 @@ module _ (n : ℕ) (small : n < 2 ^ 16) where
   pub u16-float : u16ToF32 n ≡ gives (asF32 n)
   unfolding u16ToF32 madeIn
   u16-float =
-      ap (mapped floatOf) (complete (U16 n) kind.F32 (λ q. omega arith) bits (λ q. clash cc) same-number)
+      ap (mapped floatOf) (complete (U16 n) kind.F32 (λ q. omega arith) bits (λ q. clash cc) refl same-number)
       ∙ ap (λ (b : ℕ). gives (ofBits binary32 b)) encoded
       ∙ ap gives (ofBits-toBits binary32 (asF32 n) cast-fits)

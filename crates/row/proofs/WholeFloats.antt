@@ -1,74 +1,55 @@
 -- Which f32 are whole, by their bits and by the test (x + 2^23) - 2^23 == x.
 use mathlib.Core.Path.{_≡_, refl, sym, _∙_, ap}
-use mathlib.Core.Bool.{Bool, true, false}
+use mathlib.Core.Bool.{true, false}
 use Prim.Native.Nat.{ℕ, zero, suc, _+_, _-_, _*_, _/_, _%_, _^_, _≤_, _<_}
 use native.Mathlib.Nat.{lt-of-lt-of-le, le-of-eq, mul-assoc, mul-div-cancel, mul-mod-left, le-div-iff-mul-le, add-zero}
 use native.Mathlib.Omega.{arith}
 use lib.Dec.{T}
-use lib.IntN.{ℤ, pos, natAbs}
+use lib.IntN.{pos, natAbs}
 use lib.Pow.{pow-add, pow-pos}
-use lib.Ieee.{Float, binary32, fits, toBits, ofBits, ofFields, odd, add, sub, le, eq}
+use lib.Ieee.{Float, binary32, fits, toBits, ofBits, ofFields, odd, add, sub, eq}
 use lib.Ieee.Exact.{HasValue}
 use lib.Ieee.Fits.{sub-fits}
 use Rattle.float.specs.Format.{magAt, magOf}
-use Rattle.float.specs.Number.{Exact, numberOf, signedOf}
-use Rattle.float.specs.Order.{orderZ, orderOf, patternOf, compareOf, isEqual, isLessOrEqual}
+use Rattle.float.specs.Number.{Exact, numberOf}
+use Rattle.float.specs.Order.{orderZ, orderOf, patternOf, compareOf, isEqual}
 use Rattle.float.proofs.Magnitude.{mag-rises}
 use Rattle.float.proofs.Naturals.{order-equal}
-use Rattle.float.proofs.Operators.{le-is, eq-is}
+use Rattle.float.proofs.Operators.{eq-is}
 use Rattle.float.proofs.SameNumber.{is-equal, equal-integers}
-use Rattle.row.specs.Inner.{nought, lastU16, shift, isWhole}
+use Rattle.row.specs.Inner.{shift, isWhole}
 use Rattle.row.proofs.FloatValue.{value-pattern, over-more}
 use Rattle.row.proofs.WholeTest.{back-again}
 
--- ---- the numbers that the code names
-
-pub nought-value : HasValue nought false 0 1
-unfolding ofBits ofFields odd
-nought-value = (refl, refl)
-
-pub last-value : HasValue lastU16 false 65535 1
-unfolding ofBits ofFields odd
-last-value = (refl, refl)
+-- ---- the number that the code names
 
 shift-value : HasValue shift false (2 ^ 23) 1
 unfolding ofBits ofFields odd
 shift-value = (refl, refl)
 
--- ---- the language's tests on floats, by what their bits stand for
+-- ---- the language's test on floats, by what their bits stand for
 
 module _ (x y : Float) (hx : T (fits binary32 x)) (hy : T (fits binary32 y)) {X Y : Exact}
     (px : patternOf 23 8 (toBits binary32 x) ≡ X) (py : patternOf 23 8 (toBits binary32 y) ≡ Y) where
-  pub le-at : le x y ≡ isLessOrEqual (orderOf (numberOf X) (numberOf Y))
-  unfolding compareOf
-  le-at = le-is binary32 x y hx hy ∙ cc (px, py)
-
   eq-at : eq x y ≡ isEqual (orderOf (numberOf X) (numberOf Y))
   unfolding compareOf
   eq-at = eq-is binary32 x y hx hy ∙ cc (px, py)
 
--- a sign that only a zero may have
-pub unsigned-of : (s : Bool) (a : ℕ) → (s ≡ true → a ≡ 0) → signedOf s a ≡ pos a
-unsigned-of false a h = refl
-unsigned-of true zero h = refl
-unsigned-of true (suc a) h = absurd (let q = h refl in omega arith)
-
 -- ---- the test
 
-module _ (x : Float) (s : Bool) (a : ℕ) (hx : T (fits binary32 x)) (v : HasValue x s a (2 ^ 149)) (z : s ≡ true → a ≡ 0) (l : a < 2 ^ 23 * 2 ^ 149) where
+module _ (x : Float) (a : ℕ) (hx : T (fits binary32 x)) (v : HasValue x false a (2 ^ 149)) (l : a < 2 ^ 23 * 2 ^ 149) where
   abbrev back : Float
   back = sub binary32 (add binary32 x shift) shift
 
   back-value : (q : ℕ) × (HasValue back false q 1 × ((n : ℕ) → a ≡ n * 2 ^ 149 → q ≡ n))
-  back-value = back-again binary32 x shift s a v shift-value z l
+  back-value = back-again binary32 x shift a v shift-value l
 
   tested : isWhole x ≡ isEqual (orderZ (pos (back-value .0 * 2 ^ 149)) (pos a))
   tested =
       let q = back-value .0 in
       let back-pattern = value-pattern binary32 back false (q * 2 ^ 149) (sub-fits binary32 (add binary32 x shift) shift)
       (over-more back false q (2 ^ 149) (back-value .1 .0)) in
-      eq-at back x (sub-fits binary32 (add binary32 x shift) shift) hx back-pattern (value-pattern binary32 x s a hx v)
-      ∙ ap (λ (k : ℤ). isEqual (orderZ (pos (q * 2 ^ 149)) k)) (unsigned-of s a z)
+      eq-at back x (sub-fits binary32 (add binary32 x shift) shift) hx back-pattern (value-pattern binary32 x false a hx v)
 
   pub whole-found : isWhole x ≡ true → (n : ℕ) × (a ≡ n * 2 ^ 149)
   whole-found h =

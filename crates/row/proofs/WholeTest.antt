@@ -1,13 +1,13 @@
 -- A float below h = 2^(prec - 1) is whole exactly when (x + h) - h gives it back: from h to 2h a format has whole numbers only, so the sum is
 -- rounded to one, and the difference of two whole numbers is exact.
 use mathlib.Core.Path.{_≡_, refl, sym, _∙_, ap, subst}
-use mathlib.Core.Bool.{Bool, true, false, true≢false}
+use mathlib.Core.Bool.{true, false, true≢false}
 use Prim.Native.Nat.{ℕ, zero, suc, _+_, _-_, _*_, _/_, _%_, _^_, _≤_, _<_, compare, Ordering·lt, compare·zero-suc}
 use native.Mathlib.Nat.{le-trans, le-of-eq, lt-of-lt-of-le, lt-of-le-of-lt, mul-one, mul-assoc, mul-comm, mul-right-comm, mul-pos}
-use native.Mathlib.Nat.{add-mul, zero-mul, mul-le-mul-right, mul-lt-mul-of-pos-right, lt-of-mul-lt-mul-right, eq-of-mul-eq-mul-right}
+use native.Mathlib.Nat.{add-mul, mul-le-mul-right, mul-lt-mul-of-pos-right, lt-of-mul-lt-mul-right, eq-of-mul-eq-mul-right}
 use native.Mathlib.Nat.{mul-div-cancel, mul-mod-left, le-div-iff-mul-le, div-lt-iff-lt-mul}
 use native.Mathlib.Omega.{arith}
-use borrow.Author.Tests.{lt-ltb, le-ltb}
+use borrow.Author.Tests.{le-ltb}
 use lib.Dec.{lit<}
 use lib.IntN.{ℤ}
 use lib.Pow.{pow-add, pow-pos, pow-lt}
@@ -100,20 +100,6 @@ module _ (f : Format) (a c : ℕ) (z : 0 < c) (below : a < hid f * c) where
 
 -- ---- sums and differences of floats
 
--- a sum of two that are not below zero
-sum-positive : (f : Format) (s : Bool) (a b c : ℕ) → (s ≡ true → a ≡ 0) → sum f s a false b c ≡ round f false (a + b) c
-unfolding sum
-sum-positive f false a b c h = refl
-sum-positive f true a zero c h =
-    let z : a ≡ 0 = h refl in
-    let k : 0 ≤ a = omega arith in
-    let l : a ≤ 0 = omega arith in
-    simp (le-ltb a 0 k, le-ltb 0 a l) (ap (λ (x : ℕ). round f false x c) (omega arith))
-sum-positive f true a (suc b) c h =
-    let z : a ≡ 0 = h refl in
-    let l : a < suc b = omega arith in
-    simp (lt-ltb a (suc b) l) (ap (λ (x : ℕ). round f false x c) (omega arith))
-
 -- the two sides of a sum over the common denominator
 module _ (m : ℕ) (e : ℤ) (d : ℤ) (n : ℕ) (h : m * up e * 1 ≡ n * down e) where
   left-over : m * up e * down d ≡ n * (down e * down d)
@@ -125,21 +111,7 @@ module _ (m : ℕ) (e : ℤ) (d : ℤ) (n : ℕ) (h : m * up e * 1 ≡ n * down 
 common-pos : (e d : ℤ) → 0 < down e * down d
 common-pos e d = mul-pos (down-pos e) (down-pos d)
 
--- whole numbers are added exactly
-pub whole-sum : (f : Format) (x h : Float) (s : Bool) (n k : ℕ) → HasValue x s n 1 → HasValue h false k 1 → (s ≡ true → n ≡ 0)
-    → n + k < 2 ^ prec f → HasValue (add f x h) false (n + k) 1
-unfolding add
-whole-sum f (fin s m e) (fin true i d) t n k v w z l = absurd (true≢false (w .0))
-whole-sum f (fin s m e) (fin false i d) t n k v w z l =
-    let c = down e * down d in
-    let a = left-over m e d n (v .1) in
-    let zero-side : s ≡ true → m * up e * down d ≡ 0 = λ q. a ∙ ap (λ (x : ℕ). x * c) (z (sym (v .0) ∙ q)) ∙ zero-mul c in
-    let both : m * up e * down d + i * up d * down e ≡ (n + k) * c = cc (a, right-over i d e k (w .1)) ∙ sym (add-mul n k c) in
-    subst (λ (y : Float). HasValue y false (n + k) 1)
-    (sym (sum-positive f s (m * up e * down d) (i * up d * down e) c zero-side ∙ ap (λ (x : ℕ). round f false x c) both))
-    (round-count f (n + k) c (common-pos e d) l)
-
--- and taken from one another exactly
+-- whole numbers are taken from one another exactly
 whole-difference : (f : Format) (x h : Float) (n k : ℕ) → HasValue x false n 1 → HasValue h false k 1 → k ≤ n → n - k < 2 ^ prec f
     → HasValue (sub f x h) false (n - k) 1
 unfolding sub add neg sum
@@ -176,32 +148,29 @@ record Rounded (f : Format) (y : Float) (a : ℕ) : Type 0 where
   most : r ≤ 2 ^ prec f
   exact : (n : ℕ) → a ≡ n * 2 ^ low f → r ≡ n + hid f
 
-sum-rounded : (f : Format) (x h : Float) (s : Bool) (a : ℕ) → HasValue x s a (2 ^ low f) → HasValue h false (hid f) 1
-    → (s ≡ true → a ≡ 0) → a < hid f * 2 ^ low f → Rounded f (add f x h) a
-unfolding add
-sum-rounded f (fin s m e) (fin true i d) t a v w z l = absurd (true≢false (w .0))
-sum-rounded f (fin s m e) (fin false i d) t a v w z l =
+sum-rounded : (f : Format) (x h : Float) (a : ℕ) → HasValue x false a (2 ^ low f) → HasValue h false (hid f) 1
+    → a < hid f * 2 ^ low f → Rounded f (add f x h) a
+unfolding add sum
+sum-rounded f (fin true m e) h a v w l = absurd (true≢false (v .0))
+sum-rounded f (fin false m e) (fin true i d) a v w l = absurd (true≢false (w .0))
+sum-rounded f (fin false m e) (fin false i d) a v w l =
     let c = down e * down d in
     let p = common-pos e d in
     let b : m * up e * down d < hid f * c =
     lt-of-lt-of-le (mul-lt-mul-of-pos-right (own-below (low f) m e a (v .1) (hid f) l) (down-pos d)) (le-of-eq (mul-assoc (hid f) (down e) (down d))) in
-    let whole : (n : ℕ) → a ≡ n * 2 ^ low f → m * up e * down d ≡ n * c = λ n q. left-over m e d n (mul-one (m * up e) ∙ own-whole (low f) m e a (v .1) n q) in
-    let zero-side : s ≡ true → m * up e * down d ≡ 0 = λ q. whole 0 (z (sym (v .0) ∙ q) ∙ sym (zero-mul (2 ^ low f))) ∙ zero-mul c in
-    let sum-is = sum-positive f s (m * up e * down d) (i * up d * down e) c zero-side
-    ∙ ap (λ (x : ℕ). round f false (m * up e * down d + x) c) (right-over i d e (hid f) (w .1)) in
+    let sum-is = ap (λ (x : ℕ). round f false (m * up e * down d + x) c) (right-over i d e (hid f) (w .1)) in
     record {
       r = rounded f (m * up e * down d) c p b;
       value = subst (λ (y : Float). HasValue y false (rounded f (m * up e * down d) c p b) 1) (sym sum-is) (rounded-value f (m * up e * down d) c p b);
       least = rounded-range f (m * up e * down d) c p b .0;
       most = rounded-range f (m * up e * down d) c p b .1;
-      exact = λ n q. rounded-whole f (m * up e * down d) c p b n (whole n q);
+      exact = λ n q. rounded-whole f (m * up e * down d) c p b n (left-over m e d n (mul-one (m * up e) ∙ own-whole (low f) m e a (v .1) n q));
     }
 
 -- so (x + h) - h is a whole number q, and x's own where x is whole
-pub back-again : (f : Format) (x h : Float) (s : Bool) (a : ℕ) → HasValue x s a (2 ^ low f) → HasValue h false (hid f) 1
-    → (s ≡ true → a ≡ 0) → a < hid f * 2 ^ low f
+pub back-again : (f : Format) (x h : Float) (a : ℕ) → HasValue x false a (2 ^ low f) → HasValue h false (hid f) 1 → a < hid f * 2 ^ low f
     → (q : ℕ) × (HasValue (sub f (add f x h) h) false q 1 × ((n : ℕ) → a ≡ n * 2 ^ low f → q ≡ n))
-back-again f x h s a v w z l =
-    let t = sum-rounded f x h s a v w z l in
+back-again f x h a v w l =
+    let t = sum-rounded f x h a v w l in
     let small : t .r - hid f < 2 ^ prec f = omega (arith, t .most, pow-pos (prec f - 1)) in
     (t .r - hid f, (whole-difference f (add f x h) h (t .r) (hid f) (t .value) w (t .least) small, λ n q. omega (arith, t .exact n q)))

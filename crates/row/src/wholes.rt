@@ -18,14 +18,15 @@ fn is_whole(x: f32) -> bool
     (x + 8388608.0) - 8388608.0 == x
 }
 
-// Whether no u16 has the sample's number.
+// Whether the sample is refused. One compare tells those from plus zero to 65535: all others have higher bits, minus zero and what is negative by the
+// sign bit.
 fn is_misfit(x: f32) -> bool
     ensures { λ r. ⌜ r ≡ isMisfit x ⌝ }
 {
-    !((0.0 <= x) & (x <= 65535.0) & is_whole(x))
+    !((value::bits_f32(x, 0) <= 0x477f_ff00) & is_whole(x))
 }
 
-// The number that refuses a misfit: 1 NaN, 2 infinity, 3 fraction, 4 out of range. From 2^23 on every float is whole.
+// The number that refuses a misfit: 1 NaN, 2 infinity, 13 minus zero, 3 fraction, 4 out of range. From 2^23 on every float is whole.
 fn refusal_of(x: f32) -> u8
     requires { ⌜ isMisfit x ≡ true ⌝ }
     ensures { λ r. ⌜ f32ToU16 x ≡ refuses r 0 ⌝ }
@@ -36,6 +37,8 @@ fn refusal_of(x: f32) -> u8
         1
     } else if abs == 0x7f80_0000 {
         2
+    } else if bits == 0x8000_0000 {
+        13
     } else if 0x4b00_0000 <= abs {
         4
     } else if is_whole(f32::from_bits(abs)) {
@@ -88,12 +91,11 @@ fn first_misfit(row: &[f32]) -> usize
     first_misfit_from(row, i)
 }
 
-// Minus zero has no cast of its own; plus zero makes it zero, and leaves any other sample as it is.
 fn whole_of(x: f32) -> u16
     requires { ⌜ isMisfit x ≡ false ⌝ }
     ensures { λ r. ⌜ r ≡ asU16 x ⌝ }
 {
-    (x + 0.0) as u16
+    x as u16
 }
 
 fn whole_all(src: &[f32], dst: &mut [u16])

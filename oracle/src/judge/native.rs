@@ -92,6 +92,7 @@ macro_rules! integers {
                 match number {
                     Number::Integer(n) => n.try_into().map_err(|_| 4),
                     Number::Float(x) if x.is_infinite() => Err(2),
+                    Number::Float(x) if x == 0.0 && x.is_sign_negative() => Err(13),
                     Number::Float(x) if x.fract() != 0.0 => Err(3),
                     // A number past 128 bits saturates, and is still out of range.
                     Number::Float(x) => (x as i128).try_into().map_err(|_| 4),

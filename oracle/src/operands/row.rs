@@ -76,7 +76,7 @@ fn sample(random: &mut Random, bounds: [Value; 2]) -> Value {
 /// Refused, if any sample of these kinds is; a float with each number as often.
 fn bad_sample(random: &mut Random, [from, to]: [Kind; 2]) -> Value {
     let number = match from.is_float() {
-        true => 1 + random.below(4) as u32,
+        true => random.pick(&[1, 2, 13, 3, 4]),
         false => 4,
     };
     let mut samples = (0..100).map(|_| source(random, from, to));

@@ -58,6 +58,9 @@ fn in_units(value: Value) -> Whole {
 /// The units of one are 16 limbs and 50 bits.
 fn integer_of(to: Kind, minus: bool, size: Whole) -> Answer<Value> {
     let limbs = size.0;
+    if minus && limbs.iter().all(|&limb| limb == 0) {
+        return Err((13, 0));
+    }
     if limbs[..16].iter().any(|&limb| limb != 0) || limbs[16] << 14 != 0 {
         return Err((3, 0));
     }
