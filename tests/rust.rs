@@ -1,5 +1,5 @@
 //! The wrapper for Rust: keys of many records are those of one at a time, and after a refusal what was lent is as it was; f16, for which Rust has
-//! no type, goes in and out by its bits. The last line is the number of tries.
+//! no type, goes in and out by its bits; minus zero goes to no integer kind. The last line is the number of tries.
 
 #[path = "../bench/random.rs"]
 mod random;
@@ -7,7 +7,7 @@ mod random;
 mod silamogo;
 
 use random::Random;
-use silamogo::{classify, convert, key_write, keys_write, position, Class, Kind, Refusal, Result, Sample, LONGEST_KEY};
+use silamogo::{classify, convert, key_write, keys_write, position, row_f32_to_u16, Class, Kind, Refusal, Result, Sample, LONGEST_KEY};
 
 const NAN: u64 = 0x7fc00000; // of f32; its upper half is one of f16
 
@@ -83,7 +83,7 @@ fn refused() -> usize {
 fn converted() -> usize {
     let refused = |number| Err(Refusal { number, place: 0 });
     let (half, single) = (|bits| Ok(Sample::f16(bits)), |bits| Ok(f32::from_bits(bits).into()));
-    let cases: [(Sample, Kind, Result<Sample>); 34] = [
+    let cases: [(Sample, Kind, Result<Sample>); 32] = [
         (65504u16.into(), Kind::F16, half(0x7bff)),
         (65505u16.into(), Kind::F16, refused(4)),
         (65536u32.into(), Kind::F16, refused(4)),
@@ -112,8 +112,6 @@ fn converted() -> usize {
         (Sample::f16(0x7c01), Kind::F32, refused(1)),
         (Sample::f16(0xfe00), Kind::U8, refused(1)),
         (Sample::f16(0xfc00), Kind::I64, refused(2)),
-        (Sample::f16(0x8000), Kind::I8, refused(13)),
-        (Sample::f16(0x0000), Kind::I8, Ok(0i8.into())),
         (Sample::f16(0x3800), Kind::U8, refused(3)),
         (Sample::f16(0xbc00), Kind::U64, refused(4)),
         (Sample::f16(0xbc00), Kind::I8, Ok((-1i8).into())),
@@ -124,6 +122,26 @@ fn converted() -> usize {
         assert_eq!(convert(from, to), wanted, "{from:x?} to {to:?}");
     }
     tries
+}
+
+/// Minus zero of a float kind, and plus zero, to every kind; and a row with a minus zero at each place.
+fn minus_zeros() -> usize {
+    let minus = [(-0.0f32).into(), (-0.0f64).into(), Sample::f16(0x8000)];
+    for from in minus {
+        for to in Kind::ALL {
+            let wanted = minus.into_iter().find(|s| s.kind == to).ok_or(Refusal { number: 13, place: 0 });
+            assert_eq!(convert(from, to), wanted, "{from:x?} to {to:?}");
+            assert_eq!(convert(Sample { bits: 0, ..from }, to), Ok(Sample { kind: to, bits: 0 }), "plus zero of {:?} to {to:?}", from.kind);
+        }
+    }
+    let places = 600;
+    for place in 0..places {
+        let (mut row, mut greys) = (vec![3f32; places], vec![7u16; places]);
+        row[place] = -0.0;
+        assert_eq!(row_f32_to_u16(&row, &mut greys), Err(Refusal { number: 13, place }));
+        assert!(greys.iter().all(|&grey| grey == 7), "a minus zero at {place}");
+    }
+    6 * Kind::ALL.len() + places
 }
 
 /// To its own kind every f16 comes back with its bits, payloads of NaN too; the class and the position are those of the bits.
@@ -147,5 +165,5 @@ fn main() {
     let mut random = Random::new();
     let tries = 2000;
     (0..tries).for_each(|_| made(&mut random));
-    println!("tests/rust: {} tries", tries + refused() + converted() + patterns());
+    println!("tests/rust: {} tries", tries + refused() + converted() + minus_zeros() + patterns());
 }

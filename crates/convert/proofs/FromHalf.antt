@@ -14,7 +14,7 @@ use lib.Pow.{pow-pos, pow-add}
 use Rattle.float.specs.Format.{f16, f32, absIn, infIn, magAt, magOf, magIn, negativeIn, signIn}
 use Rattle.float.specs.Number.{Exact, infinite, finite, isNone, times}
 use Rattle.float.specs.Order.{patternIn}
-use Rattle.float.proofs.Comparing.{pattern-infinite, pattern-finite}
+use Rattle.float.proofs.Comparing.{pattern-infinite, pattern-finite, pattern-clear}
 use Rattle.float.proofs.Magnitude.{abs-clear, mag-reflects, mag-small}
 use Rattle.half.specs.Small.{IsOver}
 use Rattle.value.specs.declared.Kind.the-variants as kind
@@ -83,12 +83,9 @@ module _ (m r : ℕ) (h : m < 1024) (over : IsOver m r) where
   pub entry-means : exactOf (f32Value r) ≡ finite false (m * 2 ^ 1050)
   unfolding stepOf
   entry-means =
-      let last : r < signIn f32 = lt-of-le-of-lt (entry-small m r h over) (lit< tt) in
-      let abs : absIn f32 r ≡ r = abs-clear 23 8 r last in
+      let last : r < infIn f32 = lt-of-le-of-lt (entry-small m r h over) (lit< tt) in
       ap (λ (n : ℕ). times (2 ^ 925) (patternIn f32 n)) (bits-pattern binary32 r (lt-of-lt-of-le last (lit≤ tt)))
-      ∙ ap (times (2 ^ 925)) (pattern-finite 23 8 r (subst (λ (n : ℕ). n < infIn f32) (sym abs) (lt-of-le-of-lt (entry-small m r h over) (lit< tt))))
-      ∙ ap (λ (s : Bool). finite s (magIn f32 (absIn f32 r) * 2 ^ 925)) (lt-leb _ _ last)
-      ∙ ap (λ (n : ℕ). finite false (magIn f32 n * 2 ^ 925)) abs
+      ∙ ap (times (2 ^ 925)) (pattern-clear 23 8 r last (lit≤ tt))
       ∙ ap (λ (n : ℕ). finite false (n * 2 ^ 925)) over
       ∙ ap (finite false) (mul-assoc m (2 ^ 125) (2 ^ 925))
 

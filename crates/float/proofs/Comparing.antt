@@ -2,21 +2,22 @@
 -- A rising map that keeps 0 keeps the order of signed numbers; the scaled magnitude is such a map, and so is a change of unit.
 use mathlib.Core.Path.{_≡_, refl, sym, _∙_, ap, subst}
 use mathlib.Core.Logic.{inl, inr}
-use mathlib.Core.Bool.{Bool, true, false, cond}
+use mathlib.Core.Bool.{Bool, true, false, cond, true≢false}
 use Prim.Native.Nat.{ℕ, zero, suc, _*_, _≤_, _<_}
-use native.Mathlib.Nat.{mul-lt-mul-of-pos-right, zero-mul}
+use native.Mathlib.Nat.{lt-of-lt-of-le, mul-lt-mul-of-pos-right, zero-mul}
 use native.Mathlib.Omega.{arith}
-use borrow.Author.Tests.{lt-ltb, le-ltb, eq-eqb, ne-eqb}
+use borrow.Author.Tests.{lt-ltb, le-ltb, lt-leb, le-leb, eq-eqb, ne-eqb}
 use lib.Dec.{ltb, eqb, eqb·suc-zero, leb·suc-suc}
 use lib.IntN.{ℤ}
-use Rattle.float.specs.Format.{infOf, negativeOf, absOf, magOf}
+use Rattle.float.specs.Format.{signOf, infOf, negativeOf, absOf, magOf}
 use Rattle.float.specs.Number.{signedOf, Exact, notNumber, infinite, finite, times, Number, none, minusInfinity, plusInfinity, number}
 use Rattle.float.specs.Number.{infinityOf, numberOf}
 use Rattle.float.specs.Order.{orderN, orderZ, orderOf, patternOf, compareOf}
 use Rattle.float.specs.declared.Order.{Order}
 use Rattle.float.specs.declared.Order.the-variants.{Less, Equal, Greater, Unordered}
-use Rattle.float.proofs.Naturals.{three-ways, order-less, order-greater, order-equal}
-use Rattle.float.proofs.Magnitude.{mag-rises, mag-zero}
+use Rattle.float.proofs.Naturals.{lt-or-ge, three-ways, order-less, order-greater, order-equal}
+use Rattle.float.proofs.Magnitude.{abs-clear, mag-rises, mag-zero}
+use Rattle.float.proofs.Tests.{clash}
 
 -- ---- rising maps
 
@@ -170,6 +171,26 @@ pattern-infinite p e b q = meaning-infinite (infOf p e) (negativeOf p e b) (absO
 pub pattern-finite : (p e b : ℕ) → absOf p e b < infOf p e → patternOf p e b ≡ finite (negativeOf p e b) (magOf p (absOf p e b))
 unfolding patternOf
 pattern-finite p e b h = meaning-finite (infOf p e) (negativeOf p e b) (absOf p e b) (magOf p (absOf p e b)) h
+
+-- without the sign bit: a plus sign and its own magnitude
+module _ (p e b : ℕ) where
+  pub pattern-clear : b < infOf p e → infOf p e ≤ signOf p e → patternOf p e b ≡ finite false (magOf p b)
+  pattern-clear h s =
+      let low : b < signOf p e = lt-of-lt-of-le h s in
+      let plain : absOf p e b ≡ b = abs-clear p e b low in
+      pattern-finite p e b (subst (λ (n : ℕ). n < infOf p e) (sym plain) h) ∙ cc (plain, lt-leb (signOf p e) b low)
+
+  pub clear-magnitude : (a : ℕ) → patternOf p e b ≡ finite false a → magOf p b ≡ a
+  clear-magnitude a q = elim (three-ways (absOf p e b) (infOf p e)) [
+    | inl l ↦
+        let own : finite (negativeOf p e b) (magOf p (absOf p e b)) ≡ finite false a = sym (pattern-finite p e b l) ∙ q in
+        elim (lt-or-ge b (signOf p e)) [
+          | inl c ↦ ap (magOf p) (sym (abs-clear p e b c)) ∙ cc own
+          | inr g ↦ absurd (true≢false (sym (le-leb (signOf p e) b g) ∙ cc own))
+        ]
+    | inr (inl i) ↦ clash (cc (pattern-infinite p e b i, q))
+    | inr (inr g) ↦ clash (cc (pattern-nan p e b g, q))
+  ]
 
 -- for a function that has abs in locals
 pub compare-nan-left : (p e a b : ℕ) {x : ℕ} → x ≡ absOf p e a → infOf p e < x → Unordered ≡ compareOf p e a b

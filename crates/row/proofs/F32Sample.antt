@@ -1,20 +1,15 @@
 -- One f32 sample into u16, by what its bits stand for.
-use mathlib.Core.Path.{_≡_, refl, sym, _∙_, ap, subst}
-use mathlib.Core.Bool.{Bool, true, false, cond, true≢false}
-use mathlib.Core.Logic.{inl, inr}
-use Prim.Native.Nat.{ℕ, _+_, _-_, _*_, _/_, _%_, _^_, _≤_, _<_}
+use mathlib.Core.Path.{_≡_, refl, sym, _∙_, ap}
+use mathlib.Core.Bool.{Bool, true, false, cond}
+use Prim.Native.Nat.{ℕ, _+_, _-_, _*_, _/_, _%_, _^_, _≤_}
 use native.Mathlib.Nat.{eq-of-mul-eq-mul-right, div-add-mod', add-zero, zero-mul}
-use native.Mathlib.Omega.{arith}
-use borrow.Author.Tests.{le-ltb, ltb-true, lt-leb, le-leb}
+use borrow.Author.Tests.{le-ltb, ltb-true}
 use lib.Dec.{lit<}
 use lib.Ieee.{Float, nan, inf, fin, binary32, isNan, toBits}
-use Rattle.float.specs.Format.{Format, f32, fractionOf, exponentOf, absOf, negativeOf, magOf, infIn, nanIn}
+use Rattle.float.specs.Format.{Format, f32, fractionOf, exponentOf, absOf, infIn, nanIn}
 use Rattle.float.specs.Number.{Exact, notNumber, infinite, finite, times}
 use Rattle.float.specs.Order.{patternOf, patternIn}
-use Rattle.float.proofs.Naturals.{lt-or-ge, three-ways}
-use Rattle.float.proofs.Magnitude.{abs-clear}
-use Rattle.float.proofs.Comparing.{pattern-nan, pattern-infinite, pattern-finite}
-use Rattle.float.proofs.Tests.{clash}
+use Rattle.float.proofs.Comparing.{pattern-nan}
 use Rattle.value.specs.declared.Kind.the-variants as kind
 use Rattle.value.specs.declared.Value.the-variants.{F32}
 use Rattle.value.specs.Meaning.{bitsOf, unit, stepOf, floatBits, nanWord}
@@ -28,28 +23,6 @@ use Rattle.row.proofs.IntoUnsigned.{into-fraction, into-outside, into-i
 
 abbrev pub exactOf : Float → Exact
 exactOf x = patternOf 23 8 (toBits binary32 x)
-
--- ---- a pattern without the sign bit is a plus sign and its own magnitude
-
-module _ (b : ℕ) where
-  pub clear-pattern : b < 0x7f80_0000 → patternOf 23 8 b ≡ finite false (magOf 23 b)
-  clear-pattern h =
-      let plain : absOf 23 8 b ≡ b = abs-clear 23 8 b (omega arith) in
-      pattern-finite 23 8 b (subst (λ (k : ℕ). k < 0x7f80_0000) (sym plain) h) ∙ cc (plain, lt-leb (2 ^ 31) b (omega arith))
-
-  pub clear-bits : (a : ℕ) → patternOf 23 8 b ≡ finite false a → magOf 23 b ≡ a
-  clear-bits a q = elim (three-ways (absOf 23 8 b) 0x7f80_0000) [
-    | inl l ↦
-        let own : finite (negativeOf 23 8 b) (magOf 23 (absOf 23 8 b)) ≡ finite false a = sym (pattern-finite 23 8 b l) ∙ q in
-        elim (lt-or-ge b (2 ^ 31)) [
-          | inl c ↦ ap (magOf 23) (sym (abs-clear 23 8 b c)) ∙ cc own
-          | inr g ↦ absurd (true≢false (sym (le-leb (2 ^ 31) b g) ∙ cc own))
-        ]
-    | inr (inl e) ↦ clash (cc (pattern-infinite 23 8 b e, q))
-    | inr (inr g) ↦ clash (cc (pattern-nan 23 8 b g, q))
-  ]
-
--- ---- the sample's bits
 
 -- the word beside a NaN is the one that the logic writes for it
 pub bits-are : (x : Float) → floatBits binary32 x 0 ≡ toBits binary32 x

@@ -6,7 +6,7 @@ use Prim.Native.Nat.{ℕ, _*_, _^_, _≤_, _<_}
 use native.Mathlib.Nat.{zero-mul}
 use native.Mathlib.Omega.{arith}
 use borrow.Author.Tests.{le-ltb, ltb-false, eq-eqb, eqb-true}
-use lib.Dec.{T, ltb, le→leb}
+use lib.Dec.{T, ltb, le→leb, lit≤}
 use lib.IntN.{pos}
 use lib.ListN.{length, getD}
 use lib.Pow.{pow-pos}
@@ -18,7 +18,7 @@ use lib.Ieee.Fits.{ofInt-fits}
 use Rattle.float.specs.Format.{f32, absOf, negativeOf, nanOf, magOf}
 use Rattle.float.specs.Number.{Exact, finite, times}
 use Rattle.float.specs.Order.{patternOf}
-use Rattle.float.proofs.Comparing.{pattern-nan, pattern-infinite, pattern-finite}
+use Rattle.float.proofs.Comparing.{pattern-nan, pattern-infinite, pattern-finite, pattern-clear}
 use Rattle.float.proofs.Magnitude.{abs-clear}
 use Rattle.value.specs.Meaning.{stepOf}
 use Rattle.value.specs.Outcome.{gives, refuses, done}
@@ -32,7 +32,7 @@ use Rattle.row.proofs.ConvertRow.{Answers, convert-refused, convert-don
 use Rattle.row.proofs.FloatValue.{pattern-value, bits-value, over-one}
 use Rattle.row.proofs.IntoF32.{cast-value}
 use Rattle.row.proofs.WholeFloats.{whole-found, whole-passes, large-whole, below-large}
-use Rattle.row.proofs.F32Sample.{exactOf, clear-pattern, nan-refused, infinity-refused, minus-zero-refused}
+use Rattle.row.proofs.F32Sample.{exactOf, nan-refused, infinity-refused, minus-zero-refused}
 use Rattle.row.proofs.F32Sample.{fraction-refused, outside-refused, inside-given}
 use Rattle.row.proofs.Misfits.{Sample, fit-sample, sample-fit}
 
@@ -46,7 +46,7 @@ module _ (abs : ℕ) (small : abs < 0x4b00_0000) where
   plain-float = from-bits binary32 abs (omega arith) no-nan
 
   plain-value : HasValue (ofBits binary32 abs) false (magOf 23 abs) (2 ^ 149)
-  plain-value = bits-value binary32 abs false (magOf 23 abs) (omega arith) (clear-pattern abs (omega arith))
+  plain-value = bits-value binary32 abs false (magOf 23 abs) (omega arith) (pattern-clear 23 8 abs (omega arith) (lit≤ tt))
 
   -- the test on it
   small-whole : isWhole (ofBits binary32 abs) ≡ true → (n : ℕ) × (magOf 23 abs ≡ n * 2 ^ 149)

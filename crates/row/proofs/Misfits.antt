@@ -5,16 +5,17 @@ use Prim.Native.Nat.{ℕ, _*_, _^_, _≤_, _<_}
 use native.Mathlib.Nat.{le-trans, le-of-eq, le-of-mul-le-mul-right, mul-le-mul-right, mul-lt-mul-of-pos-right, lt-of-le-of-lt}
 use native.Mathlib.Omega.{arith}
 use borrow.Author.Tests.{le-leb, leb-true}
-use lib.Dec.{T, leb, lit<}
+use lib.Dec.{T, leb, lit<, lit≤}
 use lib.Pow.{pow-pos}
 use lib.Ieee.{Float, binary32, fits, toBits}
 use Rattle.float.specs.Format.{magOf}
 use Rattle.float.specs.Number.{finite}
 use Rattle.float.proofs.Magnitude.{mag-grows, mag-reflects}
+use Rattle.float.proofs.Comparing.{pattern-clear, clear-magnitude}
 use Rattle.row.specs.Inner.{isWhole, isMisfit}
 use Rattle.row.proofs.FloatValue.{pattern-value}
 use Rattle.row.proofs.WholeFloats.{whole-found, whole-passes}
-use Rattle.row.proofs.F32Sample.{exactOf, clear-pattern, clear-bits}
+use Rattle.row.proofs.F32Sample.{exactOf}
 
 -- a whole number from 0 to 65535, without a sign
 pub record Sample (x : Float) : Type 0 where
@@ -53,7 +54,7 @@ module _ (x : Float) (hx : T (fits binary32 x)) where
   fit-sample h =
       let t = both (leb bits 0x477f_ff00) (isWhole x) h in
       let low : bits ≤ 0x477f_ff00 = leb-true bits 0x477f_ff00 (t .0) in
-      let q = clear-pattern bits (omega arith) in
+      let q = pattern-clear 23 8 bits (omega arith) (lit≤ tt) in
       let m : magOf 23 bits ≤ 65535 * 2 ^ 149 = subst (λ (k : ℕ). magOf 23 bits ≤ k) last-magnitude (mag-grows 23 bits 0x477f_ff00 low) in
       let n = found (magOf 23 bits) q m (t .1) in
       record {
@@ -65,6 +66,6 @@ module _ (x : Float) (hx : T (fits binary32 x)) where
   pub sample-fit : Sample x → isMisfit x ≡ false
   sample-fit t =
       let m : t .count * 2 ^ 149 ≤ 65535 * 2 ^ 149 = mul-le-mul-right (2 ^ 149) (t .small) in
-      let own : magOf 23 bits ≡ t .count * 2 ^ 149 = clear-bits bits (t .count * 2 ^ 149) (t .exact) in
+      let own : magOf 23 bits ≡ t .count * 2 ^ 149 = clear-magnitude 23 8 bits (t .count * 2 ^ 149) (t .exact) in
       let low : bits ≤ 0x477f_ff00 = mag-reflects 23 bits 0x477f_ff00 (le-trans (le-of-eq own) (le-trans m (le-of-eq (sym last-magnitude)))) in
       cc (le-leb bits 0x477f_ff00 low, passes (t .count * 2 ^ 149) (t .exact) m (t .count) refl)
