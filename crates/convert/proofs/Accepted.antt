@@ -29,6 +29,7 @@ use Rattle.value.proofs.Outcomes.{refuse-passes}
 use Rattle.convert.specs.Convert.{intoRules, isInfinite, isMinusZero, hasFraction, outside, outOfRange, notHeld, heldIn, patternFor, signFor}
 use Rattle.convert.specs.Convert.{magnitudeFor, absFor, integerFor}
 use Rattle.convert.proofs.Encode.{held-of}
+use Rattle.convert.proofs.MinusZero.{minus-magnitude}
 use Rattle.convert.proofs.Patterns.{made-small, encode-below, finite-made, infinite-made}
 
 -- none of the six rules holds
@@ -79,22 +80,17 @@ whole-part m h = let z : m % unit ≡ 0 = eqb-true _ _ (not-false _ (sym (and-tr
 
 -- ---- accepted: the made value stands for the same
 
--- a minus sign that isn't minus zero's
-minus-some : (m : ℕ) → ((true && eqb m 0) && true) ≡ false → 0 < m
-minus-some zero h = absurd (true≢false h)
-minus-some (suc m) h = omega arith
-
-made-unsigned : (k : ℕ) (s : Bool) (m : ℕ) → m / unit * unit ≡ m → ((s && eqb m 0) && true) ≡ false → outOfRange (unsigned k) (finite s m) ≡ false
+made-unsigned : (k : ℕ) (s : Bool) (m : ℕ) → m / unit * unit ≡ m → isMinusZero (finite s m) ≡ false → outOfRange (unsigned k) (finite s m) ≡ false
     → finite false (m / unit * unit) ≡ finite s m
 made-unsigned k false m w z h = ap (finite false) w
 made-unsigned k true m w z h =
     let l : m / unit ≤ 0 = ltb-false _ _ h in
     let q : m / unit ≡ 0 = omega arith in
-    absurd (omega (arith, minus-some m z, sym w ∙ ap (λ (n : ℕ). n * unit) q ∙ zero-mul unit))
+    absurd (omega (arith, minus-magnitude m z, sym w ∙ ap (λ (n : ℕ). n * unit) q ∙ zero-mul unit))
 
-made-signed : (s : Bool) (n m : ℕ) → n * unit ≡ m → ((s && eqb m 0) && true) ≡ false → times unit (wholeOf (signedOf s n)) ≡ finite s m
+made-signed : (s : Bool) (n m : ℕ) → n * unit ≡ m → isMinusZero (finite s m) ≡ false → times unit (wholeOf (signedOf s n)) ≡ finite s m
 made-signed false n m w z = ap (finite false) w
-made-signed true zero m w z = absurd (omega (arith, minus-some m z, zero-mul unit))
+made-signed true zero m w z = absurd (omega (arith, minus-magnitude m z, zero-mul unit))
 made-signed true (suc n) m w z = ap (finite true) w
 
 pub made-float : (f : Format) (x : Exact) → Accepted (floating f) x → exactFor (floating f) x ≡ x
@@ -106,10 +102,10 @@ pub made-same : (form : Form) (x : Exact) → Accepted form x → exactFor form 
 made-same (floating f) x a = made-float f x a
 made-same (unsigned k) notNumber a = absurd (true≢false (a .some-number))
 made-same (unsigned k) (infinite s) a = absurd (true≢false (a .no-infinity))
-made-same (unsigned k) (finite s m) a = made-unsigned k s m (whole-part m (a .no-fraction)) (a .no-minus-zero) (a .in-range)
+made-same (unsigned k) (finite s m) a = made-unsigned k s m (whole-part m (a .no-fraction)) (sym (and-true _) ∙ a .no-minus-zero) (a .in-range)
 made-same (signed k) notNumber a = absurd (true≢false (a .some-number))
 made-same (signed k) (infinite s) a = absurd (true≢false (a .no-infinity))
-made-same (signed k) (finite s m) a = made-signed s (m / unit) m (whole-part m (a .no-fraction)) (a .no-minus-zero)
+made-same (signed k) (finite s m) a = made-signed s (m / unit) m (whole-part m (a .no-fraction)) (sym (and-true _) ∙ a .no-minus-zero)
 
 -- the whole part fits the kind
 pub unsigned-fits : (k : ℕ) (x : Exact) → Accepted (unsigned k) x → magnitudeFor x < 2 ^ k

@@ -157,7 +157,7 @@ pub same-kind : (v : Value) → convertOf v (kindOf v) ≡ gives v
 same-kind v = own-kind v (kindOf v) refl
 
 module _ (v : Value) (to : Kind) (other : kindNumber (kindOf v) ≡ kindNumber to → ⊥) where
-  -- no integer kind has minus zero
+  -- minus zero to an integer kind, which has one zero alone
   abbrev signLost : Bool
   signLost = isMinusZero (exactOf v) && isInteger (formOf to)
 
@@ -179,10 +179,10 @@ module _ (v : Value) (to : Kind) (other : kindNumber (kindOf v) ≡ kindNumber t
   complete b n z h = other-kind v to other ∙ into-gives to (exactOf v) (accepts to b (exactOf v) (none-is (exactOf v) n) z h)
 
   -- the two as one claim
-  abbrev Holds : Type 0
-  Holds = (numberOf v ≡ none → ⊥) × (signLost ≡ false) × ((b : ℕ) × (numberOf (valueOf to b) ≡ numberOf v))
+  abbrev KindHasIt : Type 0
+  KindHasIt = (numberOf v ≡ none → ⊥) × (signLost ≡ false) × ((b : ℕ) × (numberOf (valueOf to b) ≡ numberOf v))
 
-  pub exactly : (((w : Value) × (convertOf v to ≡ gives w)) → Holds) × (Holds → (w : Value) × (convertOf v to ≡ gives w))
+  pub exactly : (((w : Value) × (convertOf v to ≡ gives w)) → KindHasIt) × (KindHasIt → (w : Value) × (convertOf v to ≡ gives w))
   exactly = (
     λ given. let s = sound (given .0) (given .1) in (s .0, s .1, (bitsOf (given .0), ap numberOf (s .3) ∙ ap float-number.numberOf (s .4))),
     λ has. (madeIn to (exactOf v), complete (has .2 .0) (has .0) (has .1) (has .2 .1)),

@@ -3,7 +3,7 @@
 use mathlib.Core.Path.{_≡_, refl, sym, _∙_, ap}
 use mathlib.Core.Bool.{Bool, true, false, _&&_, true≢false, and-false}
 use mathlib.Core.Logic.{inl, inr}
-use Prim.Native.Nat.{ℕ, suc, _*_, _≤_, _<_}
+use Prim.Native.Nat.{ℕ, zero, suc, _*_, _≤_, _<_}
 use native.Mathlib.Nat.{zero-mul, suc-mul}
 use native.Mathlib.Omega.{arith}
 use borrow.Author.Tests.{lt-leb, le-leb, eq-eqb, ne-eqb, eqb-true}
@@ -32,6 +32,11 @@ is-minus-zero (finite false m) h = absurd (true≢false (sym h))
 pub some-magnitude : (s : Bool) (m : ℕ) → 0 < m → isMinusZero (finite s m) ≡ false
 some-magnitude s m h = ap (λ (t : Bool). s && t) (ne-eqb m 0 (λ q. omega arith)) ∙ and-false s
 
+-- a minus sign that isn't minus zero's
+pub minus-magnitude : (m : ℕ) → isMinusZero (finite true m) ≡ false → 0 < m
+minus-magnitude zero h = absurd (true≢false h)
+minus-magnitude (suc m) h = omega arith
+
 pub integer-signless : (z : ℤ) → isMinusZero (times unit (wholeOf z)) ≡ false
 integer-signless (pos n) = refl
 integer-signless (negsuc n) = some-magnitude true (suc n * unit) (omega (arith, unit-pos, suc-mul n unit))
@@ -57,9 +62,9 @@ module _ (k p e b : ℕ) where
     | inr (inl q) ↦
         let set : signOf p e ≤ b = omega arith in
         let a : absOf p e b ≡ 0 = abs-set p e b set ∙ omega arith in
-        let zero : isMinusZero (times k (finite (negativeOf p e b) (magOf p (absOf p e b)))) ≡ true =
+        let nothing : isMinusZero (times k (finite (negativeOf p e b) (magOf p (absOf p e b)))) ≡ true =
         simp (le-leb (signOf p e) b set, a, mag-zero p, zero-mul) in
-        meant (pattern-finite p e b (omega arith)) ∙ zero ∙ sym (eq-eqb b (signOf p e) q)
+        meant (pattern-finite p e b (omega arith)) ∙ nothing ∙ sym (eq-eqb b (signOf p e) q)
     | inr (inr g) ↦
         let set : signOf p e ≤ b = omega arith in
         let a : 0 < absOf p e b = omega (arith, abs-set p e b set) in
