@@ -1,3 +1,4 @@
 pub mod Choice
 pub mod Samples
+pub mod DefaultRange
 pub mod Determined

@@ -73,9 +73,9 @@ clampOf v lower upper = chain (clampRules v lower upper) (gives (between (valueO
 
 -- ---- ranges
 
--- 0 to 1
+-- 0 to 65535, the greys of 16 bits
 abbrev pub defaultRange : Range
-defaultRange = record { lower = ofBits binary32 0x0000_0000; upper = ofBits binary32 0x3f80_0000 }
+defaultRange = record { lower = ofBits binary32 0x0000_0000; upper = ofBits binary32 0x477f_ff00 }
 
 -- making a range: 6
 abbrev pub boundsRules : Float → Float → List Rule

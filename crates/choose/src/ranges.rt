@@ -8,12 +8,13 @@ use crate::Sampled;
 use value::Refusal;
 
 impl Range {
+    // What 16-bit greys span.
     pub fn default() -> Range
         ensures { λ r. ⌜ r ≡ defaultRange ⌝ }
     {
         Range {
             lower: 0.0,
-            upper: 1.0,
+            upper: 65535.0,
         }
     }
 

@@ -5,6 +5,7 @@ use Rattle.demands.proofs.Conversion.{of-conversion}
 use Rattle.demands.proofs.WhichRefusal.{which-refusal, towards-f16}
 use Rattle.demands.proofs.Choosing.{of-records, of-choosing}
 use Rattle.demands.proofs.Rows.{of-rows}
+use Rattle.demands.proofs.DefaultRange.{of-default-range}
 use Rattle.demands.proofs.LentRows.{of-lent-rows}
 
 pub demand-2 : Demand2
@@ -17,5 +18,6 @@ demand-2 = record {
   records = of-records;
   choosing = of-choosing;
   rows = of-rows;
+  default-range = of-default-range;
   lent-rows = of-lent-rows;
 }

@@ -12,6 +12,7 @@ pub mod Refusing
 pub mod Clamping
 pub mod Choosing
 pub mod Rows
+pub mod DefaultRange
 pub mod LentRows
 pub mod Demand2
 pub mod Demand3

@@ -165,11 +165,11 @@ u16-u8 : (m n : ℕ) → u16ToU8 m ≡ gives n → convertOf (U16 m) kind.U8 ≡
 unfolding u16ToU8
 u16-u8 m n = mapped-told bitsOf U8 (convertOf (U16 m) kind.U8) n (λ w h. u8-told (U16 m) w ((λ q. clash cc), h))
 
-u16-f32 : (m : ℕ) (x : Float) → u16ToF32 m ≡ gives x → convertOf (U16 m) kind.F32 ≡ gives (F32 x 0)
+pub u16-f32 : (m : ℕ) (x : Float) → u16ToF32 m ≡ gives x → convertOf (U16 m) kind.F32 ≡ gives (F32 x 0)
 unfolding u16ToF32
 u16-f32 m x = mapped-told floatOf (λ y. F32 y 0) (convertOf (U16 m) kind.F32) x (λ w h. f32-told (U16 m) w ((λ q. clash cc), h))
 
-f32-u16 : (x : Float) (n : ℕ) → f32ToU16 x ≡ gives n → convertOf (F32 x 0) kind.U16 ≡ gives (U16 n)
+pub f32-u16 : (x : Float) (n : ℕ) → f32ToU16 x ≡ gives n → convertOf (F32 x 0) kind.U16 ≡ gives (U16 n)
 unfolding f32ToU16
 f32-u16 x n = mapped-told bitsOf U16 (convertOf (F32 x 0) kind.U16) n (λ w h. u16-told (F32 x 0) w ((λ q. clash cc), h))
 
@@ -213,7 +213,7 @@ module _ (range : Range) where
         go true q = absurd (d q)
         go false q = refl
 
-    clamp-results : clampAnswer range row ≡ gives done → clampExit range row ≡ rowResults (sampleOf range) row
+    pub clamp-results : clampAnswer range row ≡ gives done → clampExit range row ≡ rowResults (sampleOf range) row
     unfolding clampExit
     clamp-results h = given-fills _ row h (as-many (sampleOf range) row (clamp-passes h .1))
 

@@ -5,6 +5,7 @@ use Rattle.demands.specs.Conversion.{Conversion}
 use Rattle.demands.specs.WhichRefusal.{WhichRefusal, TowardsF16}
 use Rattle.demands.specs.Choosing.{Records, Choosing}
 use Rattle.demands.specs.Rows.{Rows}
+use Rattle.demands.specs.DefaultRange.{DefaultRange}
 use Rattle.demands.specs.LentRows.{LentRows}
 
 -- the demand, sentence by sentence
@@ -17,4 +18,5 @@ pub record Demand2 : Type 1 where
   pub records : Records
   pub choosing : Choosing
   pub rows : Rows
+  pub default-range : DefaultRange
   pub lent-rows : LentRows

@@ -21,6 +21,8 @@ pub mod WhichRefusal
 pub mod Choosing
 -- rows of samples, accepted and refused
 pub mod Rows
+-- the default range, by the greys of 16 bits
+pub mod DefaultRange
 -- the choice between lent rows of bytes
 pub mod LentRows
 -- keys and the order of their bytes
