@@ -1,5 +1,5 @@
 -- Strings of bytes joined where whole samples end: outputs are joined, and the first refusal stays the first.
-use Rattle.std.proofs.Common.{◌≡◌, ℕ, suc, ◌+◌, ◌^◌, ◌<◌, List, [], ◌∷◌, ◌++◌, length, sym, refl, ap, ◌∙◌, add_zero, add-suc, mod-eq_of_lt, arith}
+use Rattle.std.proofs.Common.{◌≡◌, ℕ, suc, ◌+◌, ◌^◌, ◌<◌, List, [], ◌∷◌, ◌++◌, length, sym, refl, ap, ◌∙◌, add-zero, add-suc, mod-eq_of_lt, arith}
 use Rattle.value.specs.declared.Kind.{Kind}
 use Rattle.value.specs.Outcome.{Outcome, gives, refuses, and_then, Success}
 use Rattle.row.specs.Row.{row_answer, row_results, sample_then, sample_before}
@@ -19,7 +19,7 @@ module _ {A B : Type 0} (conv : A → Outcome B) where
 
   pub answer_joined : (at : ℕ) (xs ys : List A) → row_answer conv at (xs ++ ys) ≡ and_then (row_answer conv at xs) (λ d. row_answer conv (at + length xs) ys)
   unfolding row_answer
-  answer_joined at [] ys = rw (add_zero at) refl
+  answer_joined at [] ys = rw (add-zero at) refl
   answer_joined at (x ∷ xs) ys =
       ap (sample_then at (conv x)) (answer_joined (suc at) xs ys)
       ∙ sample_joined at (conv x) (row_answer conv (suc at) xs) (row_answer conv (suc at + length xs) ys)

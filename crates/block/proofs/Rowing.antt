@@ -1,5 +1,5 @@
 -- A block that is laid out as a row: the row's conversion of each sample is the block's, so what the row call answers is the block's answer.
-use Rattle.std.proofs.Common.{◌≡◌, ℕ, suc, ◌+◌, ◌*◌, ◌/◌, ◌^◌, ◌<◌, ◌≤◌, Bool, not, List, [], ◌∷◌, map, length, get_or, drop, sym, refl, ap, ◌∙◌, subst, arith, get_or-drop, eq_eqb}
+use Rattle.std.proofs.Common.{◌≡◌, ℕ, suc, ◌+◌, ◌*◌, ◌/◌, ◌^◌, ◌<◌, ◌≤◌, Bool, not, List, [], ◌∷◌, map, length, get_or, drop, sym, refl, ap, ◌∙◌, subst, arith, get_or-drop, eq-eqb}
 use native.Mathlib.Nat.{suc_inj}
 use lib.ListN.{length_map, get_or_map}
 use lib.Seq.{sets}
@@ -65,7 +65,7 @@ module _ (from to : Kind) (src old : List ℕ) {A B : Type 0} (conv : A → Outc
 
   pub row_is : convert_answer conv xs ys ≡ row_answer conv 0 xs
   unfolding convert_answer
-  row_is = ap (λ (b : Bool). refuse_if (not b) 9 0 (row_answer conv 0 xs)) (eq_eqb (length xs) (length ys) same)
+  row_is = ap (λ (b : Bool). refuse_if (not b) 9 0 (row_answer conv 0 xs)) (eq-eqb (length xs) (length ys) same)
 
   answer_is : {o : Outcome Success} → o ≡ convert_answer conv xs ys → o ≡ block_answer from to src
   unfolding block_answer

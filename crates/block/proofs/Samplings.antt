@@ -1,5 +1,5 @@
 -- The bytes that samples make.
-use Rattle.std.proofs.Common.{◌≡◌, ℕ, zero, suc, ◌+◌, ◌*◌, ◌/◌, ◌<◌, ◌≤◌, List, [], ◌∷◌, ◌++◌, map, length, get_or, take, drop, sym, refl, ap, ◌∙◌, append_assoc, append-nil, suc-mul, add_comm, le-div_iff_mul-le, zero-mul, add-one, arith, length-append, length-take-le, take_all, drop_cons, take-add}
+use Rattle.std.proofs.Common.{◌≡◌, ℕ, zero, suc, ◌+◌, ◌*◌, ◌/◌, ◌<◌, ◌≤◌, List, [], ◌∷◌, ◌++◌, map, length, get_or, take, drop, sym, refl, ap, ◌∙◌, append_assoc, append-nil, suc-mul, add_comm, le-div_iff_mul-le, zero-mul, add-one, arith, length-append, length-take-le, take_all, drop-cons, take-add}
 use lib.ListN.{length_map}
 use lib.Seq.{sets, length-sets}
 use Rattle.value.specs.declared.Kind.{Kind}
@@ -90,7 +90,7 @@ module _ {A : Type 0} (k : Kind) (f : A → ℕ) (s : List A) (old : List ℕ) (
       → place ≡ from + i * bytes_of k → u ≡ bytes_of k → Filled now i
       → {new : List ℕ} → new ≡ sets now place (little_endian u b) → Filled new (i + 1)
   fill_step i d h v-is {b} b-is now place u p q g e =
-      let one : take 1 (drop i s) ≡ get_or s i d ∷ [] = ap (take 1) (drop_cons s i d h) in
+      let one : take 1 (drop i s) ≡ get_or s i d ∷ [] = ap (take 1) (drop-cons s i d h) in
       let laid : little_endian u b ≡ bytes_for k (map f (take 1 (drop i s))) =
       ap (λ (w : ℕ). little_endian w b) q
       ∙ ap (little_endian (bytes_of k)) (b-is ∙ ap f (sym v-is))

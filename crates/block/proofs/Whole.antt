@@ -1,5 +1,5 @@
 -- The blocks decide as the whole: after each block that ends at a whole sample, a run stands where the bytes so far put it.
-use Rattle.std.proofs.Common.{◌≡◌, ℕ, ◌+◌, ◌/◌, ◌^◌, ◌<◌, ◌≤◌, Bool, not, List, [], ◌++◌, length, sym, refl, ap, ◌∙◌, subst, inl, inr, append_assoc, append-nil, add_zero, mod-eq_of_lt, zero-add, arith, length-append, eq_eqb, ne_eqb}
+use Rattle.std.proofs.Common.{◌≡◌, ℕ, ◌+◌, ◌/◌, ◌^◌, ◌<◌, ◌≤◌, Bool, not, List, [], ◌++◌, length, sym, refl, ap, ◌∙◌, subst, inl, inr, append_assoc, append-nil, add-zero, mod-eq_of_lt, zero-add, arith, length-append, eq-eqb, ne_eqb}
 use native.Mathlib.Nat.{zero-div, zero-mod}
 use Rattle.float.proofs.Naturals.{lt_or_ge}
 use Rattle.float.proofs.Tests.{clash}
@@ -49,9 +49,9 @@ module _ (from to : Kind) (room : ℕ) where
       unfolding block_answer
       placed =
           let n : r.samples + 0 ≡ 0 + length (samples_of from p) =
-          add_zero r.samples ∙ st.count ∙ sym (zero-add (length (samples_of from p)) ∙ length_samples from (count_of from p) p) in
+          add-zero r.samples ∙ st.count ∙ sym (zero-add (length (samples_of from p)) ∙ length_samples from (count_of from p) p) in
           let few : r.samples + 0 + length (samples_of from b) < 2 ^ 64 =
-          rw (add_zero r.samples, length_samples from (count_of from b) b, sum_count) (small from (p ++ b) short) in
+          rw (add-zero r.samples, length_samples from (count_of from b) b, sum_count) (small from (p ++ b) short) in
           sym (answer_placed (bits_to to) r.samples 0 (samples_of from b) few)
           ∙ ap (λ (k : ℕ). row_answer (bits_to to) k (samples_of from b)) n
 
@@ -102,7 +102,7 @@ module _ (from to : Kind) (room : ℕ) where
     same_result r.answer st.laid
         ∙ ap (mapped (λ d. output_of from to p)) st.decided
         ∙ sym (ap (λ (t : Bool). mapped (λ d. output_of from to p)
-        (refuse_if (not t) 9 (count_of from p) (row_answer (bits_to to) 0 (samples_of from p)))) (eq_eqb (left_of from p) 0 st.whole)),
+        (refuse_if (not t) 9 (count_of from p) (row_answer (bits_to to) 0 (samples_of from p)))) (eq-eqb (left_of from p) 0 st.whole)),
   )
 
   decides_last : (r : Reached) (p b : List ℕ) → Stands r p → count_of from b ≤ room / bytes_of to → length (p ++ b) < 2 ^ 64

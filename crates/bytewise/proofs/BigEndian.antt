@@ -4,7 +4,7 @@ use mathlib.Core.Path.{◌≡◌, refl, sym, ap, ◌∙◌, subst}
 use mathlib.Core.Logic.{inl, inr}
 use mathlib.Core.List.{List, [], ◌∷◌, ◌++◌, append-nil}
 use Prim.Native.Nat.{ℕ, zero, suc, ◌+◌, ◌*◌, ◌/◌, ◌%◌, ◌^◌, ◌≤◌, ◌<◌}
-use native.Mathlib.Nat.{pow-suc, div-add-mod', mul-le-mul_right, mul_assoc, mul_comm, lt_of_lt_of_le, suc-add, zero-add, add_zero, add-suc, one-mul}
+use native.Mathlib.Nat.{pow-suc, div-add-mod', mul-le-mul_right, mul_assoc, mul_comm, lt_of_lt_of_le, suc-add, zero-add, add-zero, add-suc, one-mul}
 use native.Mathlib.Omega.{arith}
 use borrow.Author.Tests.{eqb-true}
 use lib.ListN.{length, take, drop, get_or, length-append}
@@ -74,7 +74,7 @@ number_big (suc k) n h =
 
 joined : (k n : ℕ) {l : List ℕ} → Bytes l → big_endian (k + length l) (from_big_endian n l) ≡ big_endian k n ++ l
 unfolding big_endian from_big_endian
-joined k n none = rw (add_zero k) (sym (append-nil (big_endian k n)))
+joined k n none = rw (add-zero k) (sym (append-nil (big_endian k n)))
 joined k n (more x xs h b) =
     ap (λ (m : ℕ). big_endian m (from_big_endian (n * 256 + x) xs)) (add-suc k (length xs) ∙ sym (suc-add k (length xs)))
     ∙ joined (suc k) (n * 256 + x) b

@@ -6,7 +6,7 @@ use native.Mathlib.Nat.{mul_comm, zero-add, pow-suc}
 use native.Mathlib.Numerals.{add-one}
 use native.Mathlib.Omega.{arith}
 use lib.ListN.{length, take, drop, get_or}
-use lib.Seq.{drop_cons}
+use lib.Seq.{drop-cons}
 use Rattle.bytewise.specs.Numbers.{little_endian, from_little_endian}
 
 pub length_little : (w n : ℕ) → length (little_endian w n) ≡ w
@@ -29,7 +29,7 @@ two_here src i h =
     let j = 2 * i in
     ap (λ (m : ℕ). from_little_endian (take 2 (drop m src))) (mul_comm i 2)
     ∙ ap (λ (l : List ℕ). from_little_endian (take 2 l))
-    (drop_cons src j 0 (omega arith) ∙ ap (λ (l : List ℕ). get_or src j 0 ∷ l) (drop_cons src (suc j) 0 (omega arith)))
+    (drop-cons src j 0 (omega arith) ∙ ap (λ (l : List ℕ). get_or src j 0 ∷ l) (drop-cons src (suc j) 0 (omega arith)))
     ∙ ap (λ (x : ℕ). x * 256 + get_or src j 0) (zero-add (get_or src (suc j) 0))
     ∙ ap (λ (m : ℕ). get_or src m 0 * 256 + get_or src j 0) (sym (add-one j))
 
@@ -44,10 +44,10 @@ four_here src i h =
     let three : j + 3 ≡ suc (suc (suc j)) = omega arith in
     ap (λ (m : ℕ). from_little_endian (take 4 (drop m src))) (mul_comm i 4)
     ∙ rw (
-      drop_cons src j 0 (omega arith),
-      drop_cons src (suc j) 0 (omega arith),
-      drop_cons src (suc (suc j)) 0 (omega arith),
-      drop_cons src (suc (suc (suc j))) 0 (omega arith),
+      drop-cons src j 0 (omega arith),
+      drop-cons src (suc j) 0 (omega arith),
+      drop-cons src (suc (suc j)) 0 (omega arith),
+      drop-cons src (suc (suc (suc j))) 0 (omega arith),
       zero-add (get_or src (suc (suc (suc j))) 0),
       one,
       two,

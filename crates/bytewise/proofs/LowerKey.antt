@@ -9,7 +9,7 @@ use native.Mathlib.Omega.{arith}
 use borrow.Author.Tests.{lt-ltb, le-ltb}
 use lib.Dec.{ltb}
 use lib.ListN.{length, take, drop, get_or, length-take, drop_of_length-le}
-use lib.Seq.{drop_cons, get_or-take}
+use lib.Seq.{drop-cons, get_or-take}
 use Rattle.float.specs.declared.Order.{Order}
 use Rattle.float.specs.Order.{or_else, is_less}
 use Rattle.float.proofs.Naturals.{lt_or_ge, order_less, order_greater, order_equal}
@@ -41,7 +41,7 @@ bytes_differ x y xs ys d = elim (lt_or_ge x y) [
 -- where one string ends
 end_decides : (a b : List ℕ) (i : ℕ) → i ≡ min (length a) (length b) → ltb (length a) (length b) ≡ lower (drop i a) (drop i b)
 end_decides a b i q = elim (lt_or_ge (length a) (length b)) [
-  | inl l ↦ lt-ltb _ _ l ∙ sym (rw (drop_of_length-le a {i = i} (omega arith), drop_cons b i 0 (omega arith)) (nothing_first _ _))
+  | inl l ↦ lt-ltb _ _ l ∙ sym (rw (drop_of_length-le a {i = i} (omega arith), drop-cons b i 0 (omega arith)) (nothing_first _ _))
   | inr g ↦ le-ltb _ _ g ∙ sym (rw (drop_of_length-le b {i = i} (omega arith)) (nothing_lower _))
 ]
 
@@ -58,7 +58,7 @@ module _ (x y : List ℕ) (k : ℕ) where
   module _ (both i : ℕ) (come : Come both i) where
     module _ (h : i < both) where
       step : (l : List ℕ) → i < min k (length l) → drop i (take k l) ≡ get_or l i 0 ∷ drop (suc i) (take k l)
-      step l g = rw (drop_cons (take k l) i 0 (rw length-take g), get_or-take k l i 0 (omega arith))
+      step l g = rw (drop-cons (take k l) i 0 (rw length-take g), get_or-take k l i 0 (omega arith))
 
       both_step : lower (drop i (take k x)) (drop i (take k y)) ≡ lower (get_or x i 0 ∷ drop (suc i) (take k x)) (get_or y i 0 ∷ drop (suc i) (take k y))
       both_step = rw (step x (omega arith), step y (omega arith))

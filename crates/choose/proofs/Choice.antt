@@ -1,7 +1,7 @@
 -- Choosing and clamping by the orders that were compared.
 use mathlib.Core.Path.{◌≡◌, refl, sym, ◌∙◌, ap}
 use mathlib.Core.Bool.{Bool, true, false, not, true≢false}
-use borrow.Author.Tests.{eq_eqb}
+use borrow.Author.Tests.{eq-eqb}
 use Rattle.float.specs.declared.Order.{Order}
 use Rattle.float.specs.Order.{is_less, is_less_or_equal, is_greater, is_unordered}
 use Rattle.float.proofs.Tests.{clash}
@@ -84,7 +84,7 @@ refused_kinds a b f h = go (kinds_differ a b) refl h
     go false e q = clash cc
 
 same_kinds : (v a b : Value) → kinds_differ v a ≡ false → kinds_differ v b ≡ false → kinds_differ a b ≡ false
-same_kinds v a b h k = ap not (eq_eqb _ _ (sym (one_kind v a h) ∙ one_kind v b k))
+same_kinds v a b h k = ap not (eq-eqb _ _ (sym (one_kind v a h) ∙ one_kind v b k))
 
 module _ (v lower upper : Value) where
   pub clamp_refused_lower : (f : Refusal) → refusal_of f ≡ compare_of v lower → refusal_of f ≡ clamp_of v lower upper

@@ -4,7 +4,7 @@ use mathlib.Core.List.{List, [], ◌∷◌}
 use mathlib.Core.Bool.{Bool, true, false, not, cond, true≢false}
 use Prim.Native.Nat.{ℕ}
 use lib.Dec.{T, eqb}
-use borrow.Author.Tests.{eq_eqb, ne_eqb, eqb-true, not-false}
+use borrow.Author.Tests.{eq-eqb, ne_eqb, eqb-true, not-false}
 use mir.Val.{has_key}
 use types.Run.{OneOf, miss}
 use denote.Enum.Declared.{tag_of}
@@ -66,7 +66,7 @@ pub differ : {a a' : Value} (b : Value) → a ≡ a' → OneOf (keys_in (other_t
 differ {a} {a'} b q o = ap (λ (v : Value). kinds_differ v b) q ∙ is_true _ (by_keys (other_than (kind_of a')) b o)
 
 pub alike : {a a' b b' : Value} → a ≡ a' → b ≡ b' → kind_of a' ≡ kind_of b' → kinds_differ a b ≡ false
-alike q u k = ap not (eq_eqb _ _ (ap kind_number (ap kind_of q ∙ k ∙ sym (ap kind_of u))))
+alike q u k = ap not (eq-eqb _ _ (ap kind_number (ap kind_of q ∙ k ∙ sym (ap kind_of u))))
 
 pub one_kind : (a b : Value) → kinds_differ a b ≡ false → kind_number (kind_of a) ≡ kind_number (kind_of b)
 one_kind a b h = eqb-true _ _ (not-false (eqb (kind_number (kind_of a)) (kind_number (kind_of b))) h)

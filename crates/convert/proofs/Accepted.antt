@@ -6,7 +6,7 @@ use mathlib.Core.Bool.{Bool, true, false, not, ◌&&◌, true≢false, and-true,
 use Prim.Native.Nat.{ℕ, zero, suc, ◌-◌, ◌*◌, ◌/◌, ◌%◌, ◌^◌, ◌≤◌, ◌<◌}
 use native.Mathlib.Nat.{mul-div_cancel, mul-mod_left, mul-le-mul_right, div-add-mod', zero-mul, zero-div}
 use native.Mathlib.Omega.{arith}
-use borrow.Author.Tests.{eq_eqb, eqb-true, ltb-false, le-ltb, not-false}
+use borrow.Author.Tests.{eq-eqb, eqb-true, ltb-false, le-ltb, not-false}
 use lib.Dec.{eqb}
 use lib.IntN.{ℤ, pos, negsuc, neg_ℤ, nat_abs}
 use lib.Signed.{mag}
@@ -138,7 +138,7 @@ pattern_small f x a = made_small f (sign_for x) (abs_for f x) (abs_small f x a)
 module _ (form : Form) (s : Bool) (m : ℕ) where
   -- for an integer form there is no fraction when the magnitude is a whole number of units
   no_fraction_in : (n : ℕ) → m ≡ n * unit → (has_fraction (finite s m) && is_integer form) ≡ false
-  no_fraction_in n q = ap (λ (t : Bool). not t && is_integer form) (eq_eqb _ _ (ap (λ (x : ℕ). x % unit) q ∙ mul-mod_left n unit))
+  no_fraction_in n q = ap (λ (t : Bool). not t && is_integer form) (eq-eqb _ _ (ap (λ (x : ℕ). x % unit) q ∙ mul-mod_left n unit))
 
 whole_units : (m n : ℕ) → m ≡ n * unit → m / unit ≡ n
 whole_units m n q = ap (λ (x : ℕ). x / unit) q ∙ mul-div_cancel n unit_pos

@@ -4,7 +4,7 @@ use mathlib.Core.Bool.{true, false, not}
 use mathlib.Core.Logic.{inl, inr}
 use Prim.Native.Nat.{ℕ, zero, suc, ◌+◌, ◌-◌, ◌*◌, ◌/◌, ◌%◌, ◌^◌, ◌≤◌, ◌<◌}
 use native.Mathlib.Nat.{lt_of_lt_of_le, lt_of_le_of_lt, lt_of_not-le, mul-le-mul_right, mul-lt-mul_of_pos_right, mul_assoc, mul-pos}
-use native.Mathlib.Nat.{mul-mod_left, mul-div_cancel, mul-div-mul_right, mod-eq_of_lt, div-eq_of_lt, mod-one, one-mul, zero-mul, add_zero}
+use native.Mathlib.Nat.{mul-mod_left, mul-div_cancel, mul-div-mul_right, mod-eq_of_lt, div-eq_of_lt, mod-one, one-mul, zero-mul, add-zero}
 use native.Mathlib.Nat.{pow-suc, suc-add, sub-add_cancel}
 use native.Mathlib.Omega.{arith}
 use borrow.Author.Tests.{ne_eqb, lt-ltb}
@@ -70,7 +70,7 @@ fraction_passed n zero h o = absurd (omega arith)
 fraction_passed n (suc l) h o =
     let q : suc l - 1 ≡ l = omega arith in
     let z : n % 2 ≡ 0 = omega arith in
-    rw q (sym (ap (λ (k : ℕ). eqb k 0) (lowest_first n l ∙ ap (λ (k : ℕ). n / 2 % 2 ^ l * 2 + k) z ∙ add_zero _) ∙ zero_scale (n / 2 % 2 ^ l) (omega arith)))
+    rw q (sym (ap (λ (k : ℕ). eqb k 0) (lowest_first n l ∙ ap (λ (k : ℕ). n / 2 % 2 ^ l * 2 + k) z ∙ add-zero _) ∙ zero_scale (n / 2 % 2 ^ l) (omega arith)))
 
 fraction_none : (n : ℕ) {l : ℕ} → l ≤ 0 → eqb (n % 2 ^ l) 0 ≡ true
 fraction_none n {l} h = let z : l ≡ 0 = omega arith in rw (z, mod-one n)
@@ -95,7 +95,7 @@ trailing_fraction (suc k) n (suc t) z h = elim (lt_or_ge 0 (n % 2)) [
 
 -- a factor of both is a factor of the remainder
 pub mod_scale : (m : ℕ) {d c : ℕ} → 0 < d → 0 < c → m * c % (d * c) ≡ m % d * c
-mod_scale m {d} {c} hd hc = mod-mul (m * c) hd hc ∙ rw (mul-div_cancel m hc, mul-mod_left m c, add_zero (m % d * c))
+mod_scale m {d} {c} hd hc = mod-mul (m * c) hd hc ∙ rw (mul-div_cancel m hc, mul-mod_left m c, add-zero (m % d * c))
 
 pow_split : (g l : ℕ) → l ≤ g → 2 ^ g ≡ 2 ^ (g - l) * 2 ^ l
 pow_split g l h = ap (λ (n : ℕ). 2 ^ n) (sym (sub-add_cancel h)) ∙ pow-add 2 (g - l) l

@@ -7,7 +7,7 @@ use native.Mathlib.Nat.{lt_of_lt_of_le, le-div_iff_mul-le, div-lt_iff_lt-mul, mu
 use native.Mathlib.Nat.{mul-lt-mul_of_pos_right, mul-div_cancel, div-add-mod', mod-lt, div-one, zero-mul, zero-add, pow-suc, suc-mul}
 use native.Mathlib.Nat.{suc-add}
 use native.Mathlib.Omega.{arith}
-use borrow.Author.Tests.{eq_eqb, eqb-true}
+use borrow.Author.Tests.{eq-eqb, eqb-true}
 use lib.Pow.{pow_pos, pow-add, pow_mono, high, low}
 use lib.Ieee.{size}
 use lib.Ieee.Digits.{size-lt, size-le, size_reaches}
@@ -115,7 +115,7 @@ encode_held f x = rw (mul-div_cancel (mag_in f x) (step_pos f)) (encode_mag (fra
 -- held: some abs has the magnitude
 pub held_of : (f : Format) (x : ℕ) → held_in f (mag_in f x * step_of f) ≡ true
 unfolding held_in
-held_of f x = eq_eqb _ _ (ap (λ (n : ℕ). mag_in f n * step_of f) (encode_held f x))
+held_of f x = eq-eqb _ _ (ap (λ (n : ℕ). mag_in f n * step_of f) (encode_held f x))
 
 -- and the encoded abs is one that has it
 pub held_has : (f : Format) (m : ℕ) → held_in f m ≡ true → mag_in f (encode_of f m) * step_of f ≡ m

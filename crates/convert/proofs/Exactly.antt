@@ -6,7 +6,7 @@ use mathlib.Core.List.{[]}
 use Prim.Native.Nat.{ℕ, ◌-◌, ◌*◌, ◌%◌, ◌^◌, ◌<◌}
 use native.Mathlib.Nat.{mod-eq_of_lt}
 use native.Mathlib.Omega.{arith}
-use borrow.Author.Tests.{eq_eqb, ne_eqb}
+use borrow.Author.Tests.{eq-eqb, ne_eqb}
 use lib.IntN.{ℤ, pos, negsuc}
 use lib.Signed.{mag}
 use lib.Ieee.{of_bits}
@@ -151,7 +151,7 @@ is_none_lem (finite s m) t h = clash cc
 -- the same kind: the same value
 pub own_kind_lem : (v : Value) (to : Kind) → kind_number (kind_of v) ≡ kind_number to → convert_of v to ≡ gives v
 unfolding convert_of
-own_kind_lem v to q = ap (own v to) (eq_eqb _ _ q)
+own_kind_lem v to q = ap (own v to) (eq-eqb _ _ q)
 
 pub same_kind : (v : Value) → convert_of v (kind_of v) ≡ gives v
 same_kind v = own_kind_lem v (kind_of v) refl

@@ -4,7 +4,7 @@ use mathlib.Core.Path.{◌≡◌, refl, sym, ◌∙◌, ap, subst}
 use mathlib.Core.Bool.{Bool, false}
 use Prim.Native.Nat.{ℕ, suc, ◌+◌, ◌-◌, ◌*◌, ◌/◌, ◌%◌, ◌^◌, ◌≤◌, ◌<◌}
 use native.Mathlib.Nat.{one-mul, add-mul, mul_assoc, mul_right_comm, mul-le-mul_right, lt_of_lt_of_le, lt_of_le_of_lt, le-div_iff_mul-le}
-use native.Mathlib.Nat.{add_zero, add-mul-div_right, mul-div-mul_right, add-mul-mod_self_right, mul-div_cancel, mul-mod_left}
+use native.Mathlib.Nat.{add-zero, add-mul-div_right, mul-div-mul_right, add-mul-mod_self_right, mul-div_cancel, mul-mod_left}
 use native.Mathlib.Omega.{arith}
 use borrow.Author.Tests.{lt-leb}
 use lib.Dec.{lit<, lit≤}
@@ -122,7 +122,7 @@ module _ (p d j x : ℕ) (normal : 2 ^ p ≤ x) where
       ∙ mod-mul (x * 2 ^ d) (pow_pos p) (pow_pos d)
       ∙ ap (λ (n : ℕ). n % 2 ^ p * 2 ^ d + x * 2 ^ d % 2 ^ d) (mul-div_cancel x (pow_pos d))
       ∙ ap (λ (n : ℕ). x % 2 ^ p * 2 ^ d + n) (mul-mod_left x (2 ^ d))
-      ∙ add_zero (x % 2 ^ p * 2 ^ d)
+      ∙ add-zero (x % 2 ^ p * 2 ^ d)
 
   mag_moved : mag_of (p + d) moved ≡ mag_of p x * 2 ^ (d + j)
   unfolding mag_of

@@ -6,9 +6,9 @@ use mathlib.Core.Logic.{◌⊎◌, inl, inr}
 use Prim.Native.Nat.{ℕ, zero, suc, ◌+◌, ◌-◌, ◌*◌, ◌/◌, ◌%◌, ◌^◌, ◌≤◌, ◌<◌}
 use native.Mathlib.Nat.{mul-le-mul, mul_assoc, mul_comm, zero-mul, zero-div, lt_of_lt_of_le, le_of_lt, le_of_eq, le_trans}
 use native.Mathlib.Nat.{le-div_iff_mul-le, div-lt_iff_lt-mul, div-eq_of_lt, div-add-mod', mod-lt, mod-eq_of_lt, mul-div_cancel, suc-mul}
-use native.Mathlib.Nat.{add_zero, pow-suc}
+use native.Mathlib.Nat.{add-zero, pow-suc}
 use native.Mathlib.Omega.{arith}
-use borrow.Author.Tests.{eq_eqb, eqb-true, lt-ltb, le-ltb}
+use borrow.Author.Tests.{eq-eqb, eqb-true, lt-ltb, le-ltb}
 use lib.Arith.{mod-mul}
 use lib.Ieee.{size}
 use lib.Ieee.Digits.{size-lt, size_reaches}
@@ -60,7 +60,7 @@ module _ (p c S k : ℕ) (e : k ≡ size S - suc p - c) where
       let above : n % 2 ^ k ≡ 0 = zero_factor (n % 2 ^ k) (2 ^ c) (pow_pos c) (let r = rest_is in omega arith) in
       let m : mag_of p (encode_at p n) ≡ n = mag_encode p n (rw drop_is above) in
       let w : n * 2 ^ c ≡ S = omega (arith, div-add-mod' S (2 ^ c)) in
-      eq_eqb _ _ (ap (λ (x : ℕ). x * 2 ^ c) m ∙ w)
+      eq-eqb _ _ (ap (λ (x : ℕ). x * 2 ^ c) m ∙ w)
     where
       zero_factor : (a b : ℕ) → 0 < b → a * b ≡ 0 → a ≡ 0
       zero_factor zero b h q = refl
@@ -108,7 +108,7 @@ module _ (p c S k : ℕ) (e : k ≡ size S - suc p - c) where
         less_one (suc q) a h k = let e : suc q - 1 ≡ q = omega arith in subst (λ (x : ℕ). x * a < suc q * a) (sym e) (omega (arith, suc-mul q a))
 
     pub exact_within : k ≤ last → S % 2 ^ (k + c) ≡ 0 → S ≤ (2 ^ suc p - 1) * 2 ^ last * 2 ^ c
-    exact_within h z = within (S / 2 ^ (k + c)) (k + c) (le_of_eq (sym split ∙ rw z (add_zero _))) (let q = kept_small in omega arith) (omega arith)
+    exact_within h z = within (S / 2 ^ (k + c)) (k + c) (le_of_eq (sym split ∙ rw z (add-zero _))) (let q = kept_small in omega arith) (omega arith)
 
     -- a lower exponent, or leading digits that aren't all ones
     near_within : k ≤ last → (k < last) ⊎ (S / 2 ^ (k + c) < 2 ^ suc p - 1) → S ≤ (2 ^ suc p - 1) * 2 ^ last * 2 ^ c

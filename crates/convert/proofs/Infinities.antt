@@ -2,7 +2,7 @@
 use mathlib.Core.Path.{◌≡◌, refl, sym, ◌∙◌, ap, subst}
 use mathlib.Core.Bool.{Bool, true, false, ◌&&◌}
 use Prim.Native.Nat.{ℕ}
-use borrow.Author.Tests.{eq_eqb}
+use borrow.Author.Tests.{eq-eqb}
 use Rattle.float.specs.Format.{Format, sign_in}
 use Rattle.float.specs.Number.{Exact, not_number, infinite, finite, none, number_of}
 use Rattle.float.proofs.Tests.{clash}
@@ -47,5 +47,5 @@ module _ (v : Value) (to : Kind) (other : kind_number (kind_of v) ≡ kind_numbe
   pub minus_zero_passes : (f : Format) → exact_of v ≡ finite true 0 → form_of to ≡ floating f
       → (w : Value) × (convert_of v to ≡ gives w) × (exact_of w ≡ finite true 0)
   minus_zero_passes f q t =
-      let own = is_minus_zero_lem (exact_in (real f (sign_in f))) (minus_zero_float f (sign_in f) ∙ eq_eqb (sign_in f) (sign_in f) refl) in
+      let own = is_minus_zero_lem (exact_in (real f (sign_in f))) (minus_zero_float f (sign_in f) ∙ eq-eqb (sign_in f) (sign_in f) refl) in
       float_passes (finite true 0) f q t (accepts_float f (sign_in f) (finite true 0) refl (ap number_of own))

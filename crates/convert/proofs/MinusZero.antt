@@ -6,7 +6,7 @@ use mathlib.Core.Logic.{inl, inr}
 use Prim.Native.Nat.{ℕ, zero, suc, ◌*◌, ◌≤◌, ◌<◌}
 use native.Mathlib.Nat.{zero-mul, suc-mul}
 use native.Mathlib.Omega.{arith}
-use borrow.Author.Tests.{lt-leb, le-leb, eq_eqb, ne_eqb, eqb-true}
+use borrow.Author.Tests.{lt-leb, le-leb, eq-eqb, ne_eqb, eqb-true}
 use lib.Dec.{eqb}
 use lib.IntN.{ℤ, pos, negsuc}
 use Rattle.float.specs.Format.{Format, fraction_of, exponent_of, sign_of, inf_of, negative_of, abs_of, mag_of, sign_in}
@@ -64,7 +64,7 @@ module _ (k p e b : ℕ) where
         let a : abs_of p e b ≡ 0 = abs_set p e b set ∙ omega arith in
         let nothing : is_minus_zero (times k (finite (negative_of p e b) (mag_of p (abs_of p e b)))) ≡ true =
         simp (le-leb (sign_of p e) b set, a, mag_zero p, zero-mul) in
-        meant (pattern_finite p e b (omega arith)) ∙ nothing ∙ sym (eq_eqb b (sign_of p e) q)
+        meant (pattern_finite p e b (omega arith)) ∙ nothing ∙ sym (eq-eqb b (sign_of p e) q)
     | inr (inr g) ↦
         let set : sign_of p e ≤ b = omega arith in
         let a : 0 < abs_of p e b = omega (arith, abs_set p e b set) in

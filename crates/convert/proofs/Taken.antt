@@ -4,7 +4,7 @@ use mathlib.Core.Bool.{Bool, true, false, true≢false}
 use Prim.Native.Nat.{ℕ, suc, ◌+◌, ◌-◌, ◌*◌, ◌/◌, ◌%◌, ◌^◌, ◌≤◌, ◌<◌}
 use native.Mathlib.Nat.{mul_assoc, div-lt_iff_lt-mul, lt_of_lt_of_le, mod-eq_of_lt, one-mul}
 use native.Mathlib.Omega.{arith}
-use borrow.Author.Tests.{lt-ltb, le-ltb, le-leb, eq_eqb, ne_eqb}
+use borrow.Author.Tests.{lt-ltb, le-ltb, le-leb, eq-eqb, ne_eqb}
 use lib.IntN.{ℤ, pos, negsuc, nat_abs, ◌-ℤ◌}
 use lib.Pow.{pow_pos, pow-add, pow-lt}
 use lib.Signed.{mag, le_z}
@@ -54,7 +54,7 @@ module _ (p i : ℕ) (s : Bool) (a c : ℕ) where
   taken_nan h = simp (lt-ltb i a h)
 
   pub taken_infinite : a ≤ i → a ≡ i → infinite s ≡ times (2 ^ c) (pattern_at p i s a)
-  taken_infinite h q = simp (le-ltb i a h, eq_eqb a i q)
+  taken_infinite h q = simp (le-ltb i a h, eq-eqb a i q)
 
   finite_at : a ≤ i → (a ≡ i → ⊥) → pattern_at p i s a ≡ finite s (mag_of p a)
   finite_at h d = simp (le-ltb i a h, ne_eqb a i d)

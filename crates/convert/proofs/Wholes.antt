@@ -4,7 +4,7 @@ use mathlib.Core.Bool.{Bool, true, false, not, ◌&&◌, cond}
 use Prim.Native.Nat.{ℕ, ◌+◌, ◌*◌, ◌/◌, ◌%◌, ◌^◌, ◌≤◌, ◌<◌}
 use native.Mathlib.Nat.{zero-mul, zero-div, zero-mod, le-div_iff_mul-le, div-lt_iff_lt-mul, lt_of_lt_of_le}
 use native.Mathlib.Omega.{arith}
-use borrow.Author.Tests.{eq_eqb, lt-ltb, le-ltb}
+use borrow.Author.Tests.{eq-eqb, lt-ltb, le-ltb}
 use lib.Dec.{eqb, ltb}
 use lib.Pow.{pow_pos, pow-add, pow_mono}
 use lib.Ieee.{size}
@@ -66,7 +66,7 @@ module _ (low high m g : ℕ) (e : m ≡ 0) where
   pub whole_plus_zero : gives (false, 0) ≡ whole_at low high false (m * 2 ^ g)
   whole_plus_zero =
       let r : 0 / unit ≡ 0 = zero-div unit in
-      rw nothing (ap (λ (n : ℕ). gives (false, n)) (sym r) ∙ simp (eq_eqb (0 % unit) 0 (zero-mod unit), le-ltb high (0 / unit) (rw r (omega arith))))
+      rw nothing (ap (λ (n : ℕ). gives (false, n)) (sym r) ∙ simp (eq-eqb (0 % unit) 0 (zero-mod unit), le-ltb high (0 / unit) (rw r (omega arith))))
 
 below_large : (low high : ℕ) (s : Bool) {n : ℕ} → low < 2 ^ 64 → high < 2 ^ 64 → 2 ^ 64 ≤ n → cond s low high < n
 below_large low high true l h g = lt_of_lt_of_le l g
@@ -74,4 +74,4 @@ below_large low high false l h g = lt_of_lt_of_le h g
 
 pub whole_large : (low high : ℕ) (s : Bool) (m : ℕ) → 0 < m → low < 2 ^ 64 → high < 2 ^ 64 → m % unit ≡ 0 → 2 ^ 64 ≤ m / unit
     → refuses 4 0 ≡ whole_at low high s m
-whole_large low high s m some l h z g = whole_outside low high s m some (ap not (eq_eqb _ _ z)) (below_large low high s l h g)
+whole_large low high s m some l h z g = whole_outside low high s m some (ap not (eq-eqb _ _ z)) (below_large low high s l h g)

@@ -1,7 +1,7 @@
 -- Demand 1 for a block: a row whose places are moved on is the chain of its samples' rules at the moved places, and the block's own two rules stand
 -- before it.
 use Prim.Native.Nat.{ℕ, suc, ◌+◌}
-use native.Mathlib.Nat.{add_zero, add-suc}
+use native.Mathlib.Nat.{add-zero, add-suc}
 use mathlib.Core.Path.{◌≡◌, refl, sym, ◌∙◌, ap}
 use mathlib.Core.Bool.{true, false}
 use mathlib.Core.List.{List, [], ◌∷◌, map, map-append}
@@ -47,7 +47,7 @@ samples_placed : (from to : Kind) (before : ℕ) (src : List ℕ)
 unfolding block_answer bits_to
 samples_placed from to before src =
     row_placed (bits_to to) (λ v. convert_rules v to) (λ v. bits_of (converted_to v to)) (λ v. through bits_of v to) before 0 (samples_of from src)
-    ∙ ap (λ (k : ℕ). chain (map place_counted (convert_each_rules to k (samples_of from src))) (gives done)) (add_zero before)
+    ∙ ap (λ (k : ℕ). chain (map place_counted (convert_each_rules to k (samples_of from src))) (gives done)) (add-zero before)
 
 by_block : (from to : Kind) (before : ℕ) (src : List ℕ) (room : ℕ)
     → By (block_rules from to before src room) (step_answer from to before (gives done) src room)

@@ -5,7 +5,7 @@ use native.Mathlib.Omega.{arith}
 use mathlib.Core.Path.{◌≡◌, refl, sym, ap, ◌∙◌, subst}
 use mathlib.Core.Bool.{true, false, not}
 use mathlib.Core.List.{List, [], ◌∷◌, ◌++◌, map}
-use borrow.Author.Tests.{eq_eqb, le-ltb, eqb-true, ltb-false, not-false}
+use borrow.Author.Tests.{eq-eqb, le-ltb, eqb-true, ltb-false, not-false}
 use lib.Dec.{eqb, ltb}
 use lib.ListN.{length, drop, length_map}
 use lib.Ieee.{to_bits, of_bits, of_fields, odd, size, span, climb, is_nan}
@@ -62,7 +62,7 @@ module _ (ns bs : List ℕ) (w : Writable ns bs) where
   -- ---- past the boundary's rules
 
   even_test : eqb (length ns) (length bs) ≡ true
-  even_test = eq_eqb (length ns) (length bs) (fit_even w.fields)
+  even_test = eq-eqb (length ns) (length bs) (fit_even w.fields)
 
   narrow_test : ltb (first_wide (paired_samples ns bs)) (length (paired_samples ns bs)) ≡ false
   narrow_test = rw (fit_narrow w.fields) (le-ltb (length (paired_samples ns bs)) (length (paired_samples ns bs)) (omega arith))
@@ -106,7 +106,7 @@ write_told ns bs room n h =
 read_past : (ns key : List ℕ) (room : ℕ) → bad_count (length ns) ≡ false → any_unnamed ns ≡ false → length ns ≡ room
     → record_read ns key room ≡ read_of (shape_for ns) key
 unfolding record_read
-read_past ns key room count named even = rw (count, named, eq_eqb (length ns) room even)
+read_past ns key room count named even = rw (count, named, eq-eqb (length ns) room even)
 
 -- what the boundary's rules let pass, and what is read behind them
 record Read (ns key : List ℕ) (room : ℕ) (r : Record) : Type 0 where

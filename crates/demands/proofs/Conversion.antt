@@ -5,7 +5,7 @@ use mathlib.Core.Logic.{◌↔◌}
 use Prim.Native.Nat.{ℕ, ◌*◌, ◌^◌, ◌<◌}
 use native.Mathlib.Nat.{mul_assoc}
 use native.Mathlib.Omega.{arith}
-use borrow.Author.Tests.{eq_eqb, eqb-true}
+use borrow.Author.Tests.{eq-eqb, eqb-true}
 use lib.IntN.{pos}
 use Rattle.float.specs.Format.{Format, mag_in, sign_in}
 use Rattle.float.specs.Number.{Exact, finite, number_of}
@@ -55,7 +55,7 @@ minus_zero_content (natural k n) = ((λ q. absurd (true≢false (sym (ap is_minu
 minus_zero_content (integer k z) = ((λ q. absurd (true≢false (sym (ap is_minus_zero q) ∙ integer_signless z))), λ h. clash (cc h.1))
 minus_zero_content (real f b) = (
   (λ q. (f, refl, eqb-true b (sign_in f) (sym (minus_zero_float f b) ∙ ap is_minus_zero q))),
-  λ h. let own : f ≡ h.0 = cc h.1 in is_minus_zero_lem (exact_in (real f b)) (minus_zero_float f b ∙ eq_eqb b (sign_in f) (h.2 ∙ ap sign_in (sym own))),
+  λ h. let own : f ≡ h.0 = cc h.1 in is_minus_zero_lem (exact_in (real f b)) (minus_zero_float f b ∙ eq-eqb b (sign_in f) (h.2 ∙ ap sign_in (sym own))),
 )
 
 minus_zero_means : (v : Value) → IsMinusZero v ↔ ((f : Format) × (form_of (kind_of v) ≡ floating f) × (bits_of v ≡ sign_in f))

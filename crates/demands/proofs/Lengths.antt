@@ -7,7 +7,7 @@ use mathlib.Core.Logic.{inl, inr, ◌↔◌}
 use mathlib.Core.Bool.{Bool, true, false, not}
 use mathlib.Core.List.{List, [], ◌∷◌}
 use native.Mathlib.Omega.{arith}
-use borrow.Author.Tests.{eqb-true, eq_eqb, ltb-true, lt-ltb, not-false}
+use borrow.Author.Tests.{eqb-true, eq-eqb, ltb-true, lt-ltb, not-false}
 use lib.Dec.{eqb, ltb}
 use lib.ListN.{length}
 use Rattle.value.specs.declared.Kind.{Kind}
@@ -27,7 +27,7 @@ use Rattle.demands.proofs.RuleNumbers.{nan_absent, canonical_absent, first_exact
 pub bad_count_lem : (n : ℕ) → (bad_count n ≡ true) ↔ NoneOrMany n
 bad_count_lem n = Iff.trans (either (eqb n 0) (ltb 12 n)) (
   (λ h. elim h [ inl e ↦ inl (eqb-true n 0 e) | inr l ↦ inr (ltb-true 12 n l) ]),
-  λ h. elim h [ inl e ↦ inl (eq_eqb n 0 e) | inr l ↦ inr (lt-ltb 12 n l) ],
+  λ h. elim h [ inl e ↦ inl (eq-eqb n 0 e) | inr l ↦ inr (lt-ltb 12 n l) ],
 )
 
 past_twelve : (at : ℕ) → (ltb 11 at ≡ true) ↔ (12 ≤ at)
@@ -37,7 +37,7 @@ shorter : (m n : ℕ) → (ltb m n ≡ true) ↔ (m < n)
 shorter m n = ((λ h. ltb-true m n h), λ h. lt-ltb m n h)
 
 unequal : (m n : ℕ) → (not (eqb m n) ≡ true) ↔ (m ≡ n → ⊥)
-unequal m n = true_otherwise (not (eqb m n)) ((λ h. eqb-true m n (not-false (eqb m n) h)), λ q. ap not (eq_eqb m n q))
+unequal m n = true_otherwise (not (eqb m n)) ((λ h. eqb-true m n (not-false (eqb m n) h)), λ q. ap not (eq-eqb m n q))
 
 -- ---- the calls
 

@@ -6,7 +6,7 @@ use native.Mathlib.Omega.{arith}
 use mathlib.Core.Path.{◌≡◌, refl, sym, ◌∙◌, ap, subst}
 use mathlib.Core.Bool.{Bool, true, false, not}
 use mathlib.Core.List.{List, [], ◌∷◌}
-use borrow.Author.Tests.{eq_eqb, eqb-true, not-false}
+use borrow.Author.Tests.{eq-eqb, eqb-true, not-false}
 use lib.Dec.{eqb, lit<}
 use lib.ListN.{length, get_or}
 use lib.Ieee.{Float, nan, binary32, to_bits, of_bits}
@@ -101,7 +101,7 @@ module _ {A B : Type 0} (conv : A → Outcome B) where
 
     same_lengths : length src ≡ length dst → convert_answer conv src dst ≡ row_answer conv 0 src
     unfolding convert_answer
-    same_lengths q = ap (λ (t : Bool). refuse_if (not t) 9 0 (row_answer conv 0 src)) (eq_eqb _ _ q)
+    same_lengths q = ap (λ (t : Bool). refuse_if (not t) 9 0 (row_answer conv 0 src)) (eq-eqb _ _ q)
 
     exit_results : convert_answer conv src dst ≡ gives done → convert_exit conv src dst ≡ row_results conv src
     unfolding convert_exit

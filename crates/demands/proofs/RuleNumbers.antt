@@ -6,7 +6,7 @@ use mathlib.Core.Path.{◌≡◌, refl, sym}
 use mathlib.Core.Logic.{◌⊎◌, inl, inr, ◌↔◌}
 use mathlib.Core.Bool.{Bool, true, false, not, ◌&&◌, ◌||◌, cond, true≢false, and-eq-true_iff}
 use mathlib.Core.List.{List, [], ◌∷◌, ◌++◌, map}
-use borrow.Author.Tests.{eq_eqb}
+use borrow.Author.Tests.{eq-eqb}
 use lib.Dec.{eqb}
 use Rattle.float.specs.Number.{Exact, is_none}
 use Rattle.value.specs.declared.Kind.{Kind}
@@ -29,7 +29,7 @@ absent n (m ∷ ms) = not (eqb m n) && absent n ms
 
 first_there : (n : ℕ) {p : ℕ} {rules : List Rule} → First n p rules → absent n (numbers_of rules) ≡ true → ⊥
 unfolding numbers_of
-first_there n (here rest) h = true≢false (sym (rw (eq_eqb n n refl) at h))
+first_there n (here rest) h = true≢false (sym (rw (eq-eqb n n refl) at h))
 first_there n (later m q rest f) h = first_there n f ((and-eq-true_iff (not (eqb m n)) (absent n (numbers_of rest))).0 h).1
 
 never_refused : {A : Type 0} {rules : List Rule} {o : Outcome A} → By rules o → (n p : ℕ) → absent n (numbers_of rules) ≡ true → o ≡ refuses n p → ⊥

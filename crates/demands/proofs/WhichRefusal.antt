@@ -6,7 +6,7 @@ use Prim.Native.Nat.{ℕ, zero, suc, ◌-◌, ◌*◌, ◌/◌, ◌%◌, ◌^◌
 use native.Mathlib.Nat.{div-add-mod', mul-div_cancel, mul-mod_left, zero-mul, zero-mod}
 use native.Mathlib.Omega.{arith}
 use mathlib.Core.Logic.{◌↔◌}
-use borrow.Author.Tests.{lt-ltb, le-ltb, ltb-true, ltb-false, eq_eqb, eqb-true, not-false}
+use borrow.Author.Tests.{lt-ltb, le-ltb, ltb-true, ltb-false, eq-eqb, eqb-true, not-false}
 use lib.Dec.{T, ltb}
 use lib.IntN.{ℤ, pos, negsuc, nat_abs}
 use lib.Pow.{pow_pos}
@@ -119,8 +119,8 @@ module _ {n : Number} (s : Bool) (m : ℕ) (is : n ≡ number (signed_of s m)) w
 
   -- to an integer kind only what is whole passes
   whole_passes : (form : Form) → (is_integer form ≡ true → IsWhole n) → fractional form s m ≡ false
-  whole_passes (unsigned k) w = and-true _ ∙ ap not (eq_eqb _ _ (whole_rest (w refl)))
-  whole_passes (signed k) w = and-true _ ∙ ap not (eq_eqb _ _ (whole_rest (w refl)))
+  whole_passes (unsigned k) w = and-true _ ∙ ap not (eq-eqb _ _ (whole_rest (w refl)))
+  whole_passes (signed k) w = and-true _ ∙ ap not (eq-eqb _ _ (whole_rest (w refl)))
   whole_passes (floating f) w = and-false (has_fraction (finite s m))
 
   whole_passed : (form : Form) → fractional form s m ≡ false → is_integer form ≡ true → IsWhole n

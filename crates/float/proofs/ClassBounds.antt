@@ -6,7 +6,7 @@ use mathlib.Core.Bool.{Bool, true, and-eq-true_iff}
 use Prim.Native.Nat.{ℕ, suc, ◌+◌, ◌-◌, ◌^◌, ◌≤◌, ◌<◌}
 use native.Mathlib.Nat.{pow-suc, le_of_eq}
 use native.Mathlib.Omega.{arith}
-use borrow.Author.Tests.{ltb-true, leb-true, eqb-true, lt-ltb, le-leb, eq_eqb}
+use borrow.Author.Tests.{ltb-true, leb-true, eqb-true, lt-ltb, le-leb, eq-eqb}
 use lib.Dec.{ltb, leb}
 use lib.Pow.{pow_mono, pow_pos}
 use lib.IntN.{pos, nat_abs}
@@ -32,7 +32,7 @@ bounds_test p e b Nan = nan_of p e b
 
 own_bounds : (p e b : ℕ) → bounds_test p e b (class_of p e b) ≡ true
 own_bounds p e b =
-    by_class p e b (λ c. bounds_test p e b c ≡ true) (lt-ltb _ _) (eq_eqb _ _) (eq_eqb _ _)
+    by_class p e b (λ c. bounds_test p e b c ≡ true) (lt-ltb _ _) (eq-eqb _ _) (eq-eqb _ _)
     (λ l g. simp (lt-ltb _ _ l, lt-ltb _ _ g)) (λ g l. simp (le-leb _ _ g, lt-ltb _ _ l))
 
 -- a format with an exponent bit or more has room for its subnormal patterns
@@ -110,12 +110,12 @@ normal_bounds p e x h low high =
 
 module _ (p e b : ℕ) (h : 2 ≤ e) where
   means_bounds : (c : Class) → ClassMeans p e b c → bounds_test p e b c ≡ true
-  means_bounds Zero m = eq_eqb _ _ (scaled_abs p e b m)
+  means_bounds Zero m = eq-eqb _ _ (scaled_abs p e b m)
   means_bounds Subnormal m = simp (lt-ltb _ _ m.1, lt-ltb _ _ m.2)
   means_bounds Normal m = let r = normal_bounds p e (abs_of p e b) h m.0 m.1 in simp (le-leb _ _ r.0, lt-ltb _ _ r.1)
   means_bounds Infinite m = elim (three_ways (abs_of p e b) (inf_of p e)) [
     | inl l ↦ clash (cc (m, pattern_finite p e b l))
-    | inr (inl q) ↦ eq_eqb _ _ q
+    | inr (inl q) ↦ eq-eqb _ _ q
     | inr (inr g) ↦ clash (cc (m, pattern_nan p e b g))
   ]
   means_bounds Nan m = elim (three_ways (abs_of p e b) (inf_of p e)) [

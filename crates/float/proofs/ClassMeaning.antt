@@ -3,7 +3,7 @@ use mathlib.Core.Path.{◌≡◌, refl, sym, ◌∙◌, ap, subst}
 use mathlib.Core.Bool.{Bool, true, false, cond}
 use Prim.Native.Nat.{ℕ, ◌-◌, ◌^◌, ◌≤◌, ◌<◌}
 use native.Mathlib.Omega.{arith}
-use borrow.Author.Tests.{ltb-true, ltb-false, eqb-true, eqb-false, lt-ltb, le-ltb, eq_eqb, ne_eqb}
+use borrow.Author.Tests.{ltb-true, ltb-false, eqb-true, eqb-false, lt-ltb, le-ltb, eq-eqb, ne_eqb}
 use lib.Dec.{ltb, eqb}
 use lib.IntN.{pos}
 use Rattle.float.specs.declared.Class.{Class}
@@ -26,11 +26,11 @@ module _ (p e b : ℕ) {x : ℕ} (q : x ≡ abs_of p e b) where
   class_nan a = picked (simp (lt-ltb _ _ a))
 
   pub class_infinite : x ≤ inf_of p e → x ≡ inf_of p e → Infinite ≡ class_of p e b
-  class_infinite a c = picked (simp (le-ltb _ _ a, eq_eqb _ _ c))
+  class_infinite a c = picked (simp (le-ltb _ _ a, eq-eqb _ _ c))
 
   module _ (a : x ≤ inf_of p e) (c : x ≡ inf_of p e → ⊥) where
     pub class_zero : x ≡ 0 → Zero ≡ class_of p e b
-    class_zero d = picked (simp (le-ltb _ _ a, ne_eqb _ _ c, eq_eqb _ _ d))
+    class_zero d = picked (simp (le-ltb _ _ a, ne_eqb _ _ c, eq-eqb _ _ d))
 
     pub class_subnormal : (x ≡ 0 → ⊥) → x < 2 ^ p → Subnormal ≡ class_of p e b
     class_subnormal d f = picked (simp (le-ltb _ _ a, ne_eqb _ _ c, ne_eqb _ _ d, lt-ltb _ _ f))

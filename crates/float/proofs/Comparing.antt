@@ -6,7 +6,7 @@ use mathlib.Core.Bool.{Bool, true, false, cond, true≢false}
 use Prim.Native.Nat.{ℕ, zero, suc, ◌*◌, ◌≤◌, ◌<◌}
 use native.Mathlib.Nat.{lt_of_lt_of_le, mul-lt-mul_of_pos_right, zero-mul}
 use native.Mathlib.Omega.{arith}
-use borrow.Author.Tests.{lt-ltb, le-ltb, lt-leb, le-leb, eq_eqb, ne_eqb}
+use borrow.Author.Tests.{lt-ltb, le-ltb, lt-leb, le-leb, eq-eqb, ne_eqb}
 use lib.Dec.{ltb, eqb, eqb-suc-zero, leb-suc-suc}
 use lib.IntN.{ℤ}
 use Rattle.float.specs.Format.{sign_of, inf_of, negative_of, abs_of, mag_of}
@@ -107,7 +107,7 @@ meaning_nan : (I : ℕ) (s : Bool) (x m : ℕ) → I < x → meaning I s x m ≡
 meaning_nan I s x m h = simp (lt-ltb _ _ h)
 
 meaning_infinite : (I : ℕ) (s : Bool) (x m : ℕ) → x ≡ I → meaning I s x m ≡ infinite s
-meaning_infinite I s x m q = let l : x ≤ I = omega arith in simp (le-ltb I x l, eq_eqb x I q)
+meaning_infinite I s x m q = let l : x ≤ I = omega arith in simp (le-ltb I x l, eq-eqb x I q)
 
 meaning_finite : (I : ℕ) (s : Bool) (x m : ℕ) → x < I → meaning I s x m ≡ finite s m
 meaning_finite I s x m h = let l : x ≤ I = omega arith in simp (le-ltb I x l, ne_eqb x I (λ q. omega arith))

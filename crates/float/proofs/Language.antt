@@ -4,10 +4,10 @@ use mathlib.Core.Path.{◌≡◌, refl, sym, ◌∙◌, ap, subst}
 use mathlib.Core.Logic.{inl, inr}
 use mathlib.Core.Bool.{Bool, true, false, cond}
 use Prim.Native.Nat.{ℕ, zero, suc, ◌+◌, ◌-◌, ◌*◌, ◌/◌, ◌%◌, ◌^◌, ◌≤◌, ◌<◌}
-use native.Mathlib.Nat.{mul-one, mul_comm, suc-mul, le_of_lt, mod-lt, mod-eq_of_lt, mod-eq-sub-mod, mod_mod, mul-mod_left, mul-add-mod_self_right}
+use native.Mathlib.Nat.{mul-one, mul_comm, suc-mul, le_of_lt, mod-lt, mod-eq_of_lt, mod-eq-sub-mod, mod-mod, mul-mod_left, mul-add-mod_self_right}
 use native.Mathlib.Nat.{div-add-mod', le-div_iff_mul-le, div-lt_iff_lt-mul, mul-div_cancel}
 use native.Mathlib.Omega.{arith}
-use borrow.Author.Tests.{lt-ltb, le-ltb, eq_eqb, ne_eqb}
+use borrow.Author.Tests.{lt-ltb, le-ltb, eq-eqb, ne_eqb}
 use lib.Dec.{T, ltb, eqb, leb}
 use lib.IntN.{ℤ}
 use lib.Arith.{mod-mul}
@@ -114,7 +114,7 @@ module _ (p e : ℕ) where
       ap (λ (n : ℕ). b % n % 2 ^ p) (pow-add 2 p e ∙ mul_comm (2 ^ p) (2 ^ e))
       ∙ ap (λ (n : ℕ). n % 2 ^ p) (mod-mul b (pow_pos e) (pow_pos p))
       ∙ mul-add-mod_self_right (b / 2 ^ p % 2 ^ e) (2 ^ p) (b % 2 ^ p)
-      ∙ mod_mod b (2 ^ p)
+      ∙ mod-mod b (2 ^ p)
 
   module _ (x : ℕ) where
     fields_above : x < sign_of p e → inf_of p e < x → (x / 2 ^ p ≡ last) × (x % 2 ^ p ≡ 0 → ⊥)
@@ -140,8 +140,8 @@ module _ (p e : ℕ) where
         | inl l ↦ simp (ne_eqb (x / 2 ^ p) last (fields_below x l), le-ltb _ _ (le_of_lt l), ne_eqb x (inf_of p e) (λ q. omega arith))
         | inr (inl q) ↦
             let k : x ≤ inf_of p e = omega arith in
-            simp (eq_eqb (x / 2 ^ p) last (fields_at x q).0, eq_eqb (x % 2 ^ p) 0 (fields_at x q).1, le-ltb _ _ k, eq_eqb x _ q)
-        | inr (inr g) ↦ simp (eq_eqb (x / 2 ^ p) last (fields_above x h g).0, ne_eqb (x % 2 ^ p) 0 (fields_above x h g).1, lt-ltb _ _ g)
+            simp (eq-eqb (x / 2 ^ p) last (fields_at x q).0, eq-eqb (x % 2 ^ p) 0 (fields_at x q).1, le-ltb _ _ k, eq-eqb x _ q)
+        | inr (inr g) ↦ simp (eq-eqb (x / 2 ^ p) last (fields_above x h g).0, ne_eqb (x % 2 ^ p) 0 (fields_above x h g).1, lt-ltb _ _ g)
       ]
 
   fields_pattern : (b : ℕ) → b < 2 * sign_of p e → fields_exact p last (leb (sign_of p e) b) (b % sign_of p e / 2 ^ p) (b % 2 ^ p) ≡ pattern_of p e b

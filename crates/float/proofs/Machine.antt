@@ -2,7 +2,7 @@
 use mathlib.Core.Path.{◌≡◌, refl, sym, ◌∙◌, subst}
 use mathlib.Core.Bool.{Bool}
 use Prim.Native.Nat.{ℕ, zero, suc, ◌-◌, ◌^◌, ◌<◌}
-use native.Mathlib.Nat.{add_zero}
+use native.Mathlib.Nat.{add-zero}
 use native.Mathlib.Omega.{arith}
 use borrow.Author.Tests.{lt-ltb}
 use lib.Dec.{lit<}
@@ -30,7 +30,7 @@ negated (suc n) = let q : suc n - 1 ≡ n = omega arith in simp (lt-ltb 0 (suc n
 
 less_one : (n : ℕ) → neg_ℤ (pos n) -ℤ pos 1 ≡ negsuc n
 less_one zero = refl
-less_one (suc n) = simp add_zero
+less_one (suc n) = simp add-zero
 
 neg_small : (n : ℕ) {k : ℕ} → n < k → mag (neg_ℤ (pos n)) < k
 neg_small zero h = h

@@ -6,7 +6,7 @@ use mathlib.Core.Logic.{inl, inr}
 use Prim.Native.Nat.{ℕ, zero, suc, ◌+◌, ◌-◌, ◌*◌, ◌/◌, ◌%◌, ◌^◌, ◌≤◌, ◌<◌}
 use native.Mathlib.Nat.{eq-or-lt_of_le, le_trans, lt_of_lt_of_le, mul-lt-mul_of_pos_right, mul-le-mul_right, mul-le-mul_left, mul_assoc}
 use native.Mathlib.Nat.{mul_comm, pow-suc, pow-zero, mul-one, mod-lt, le_of_lt, le_of_eq, zero-div, zero-mod, div-eq_of_lt, mod-eq_of_lt}
-use native.Mathlib.Nat.{div_self, mod_self, suc-mul, add_zero, add_comm}
+use native.Mathlib.Nat.{div_self, mod_self, suc-mul, add-zero, add_comm}
 use native.Mathlib.Omega.{arith}
 use borrow.Author.Tests.{le-leb, lt-leb}
 use lib.Pow.{pow_pos, pow_mono, shr_mono, split, high, low, high_ones}
@@ -109,7 +109,7 @@ mag_small p x h = simp (div-eq_of_lt h, mod-eq_of_lt h)
 -- the smallest normal magnitude, and the largest
 pub mag_normal : (p : ℕ) → mag_of p (2 ^ p) ≡ 2 ^ p
 unfolding mag_of
-mag_normal p = simp (div_self (pow_pos p), mod_self, pow-zero, mul-one, add_zero)
+mag_normal p = simp (div_self (pow_pos p), mod_self, pow-zero, mul-one, add-zero)
 
 -- the last abs of an exponent field has all ones below it
 pub mag_last : (p k : ℕ) → mag_of p (suc (suc k) * 2 ^ p - 1) ≡ (2 ^ suc p - 1) * 2 ^ k

@@ -5,7 +5,7 @@ use mathlib.Core.Bool.{Bool, true, false}
 use Prim.Native.Nat.{ℕ, ◌≤◌, ◌<◌}
 use native.Mathlib.Nat.{eq-or-lt_of_le}
 use native.Mathlib.Omega.{arith}
-use borrow.Author.Tests.{lt-ltb, le-ltb, ltb-true, ltb-false, eq_eqb, ne_eqb}
+use borrow.Author.Tests.{lt-ltb, le-ltb, ltb-true, ltb-false, eq-eqb, ne_eqb}
 use lib.Dec.{ltb, eqb}
 use Rattle.float.specs.Order.{order_n, is_less, is_equal}
 use Rattle.float.specs.declared.Order.TheVariants.{Less, Equal, Greater}
@@ -43,13 +43,13 @@ less_test m n = elim (three_ways m n) [
 pub equal_test : (m n : ℕ) → is_equal (order_n m n) ≡ eqb m n
 equal_test m n = elim (three_ways m n) [
   | inl l ↦ ap is_equal (order_less m n l) ∙ sym (ne_eqb m n (λ q. omega arith))
-  | inr (inl q) ↦ ap is_equal (order_equal m n q) ∙ sym (eq_eqb m n q)
+  | inr (inl q) ↦ ap is_equal (order_equal m n q) ∙ sym (eq-eqb m n q)
   | inr (inr g) ↦ ap is_equal (order_greater m n g) ∙ sym (ne_eqb m n (λ q. omega arith))
 ]
 
 pub eqb_turned : (m n : ℕ) → eqb m n ≡ eqb n m
 eqb_turned m n = elim (three_ways m n) [
   | inl l ↦ ne_eqb m n (λ q. omega arith) ∙ sym (ne_eqb n m (λ q. omega arith))
-  | inr (inl q) ↦ eq_eqb m n q ∙ sym (eq_eqb n m (sym q))
+  | inr (inl q) ↦ eq-eqb m n q ∙ sym (eq-eqb n m (sym q))
   | inr (inr g) ↦ ne_eqb m n (λ q. omega arith) ∙ sym (ne_eqb n m (λ q. omega arith))
 ]

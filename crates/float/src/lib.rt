@@ -1,6 +1,8 @@
 // f16, f32 and f64 by their bits: sign, class, position in the total order, and the comparison of two patterns.
 // Nothing here computes with floats: a pattern is a whole number, and every rule is one about whole numbers (docs/RULES.md).
 // Definitions and laws are over (p, e), the numbers of fraction and exponent bits: 10, 5 for f16, 23, 8 for f32 and 52, 11 for f64.
+#![tactic(auto)]
+
 mod bits;
 mod classes;
 mod orders;

@@ -3,7 +3,7 @@ use mathlib.Core.Path.{◌∙◌, sym, subst}
 use mathlib.Core.Bool.{Bool, true, ◌&&◌}
 use mathlib.Core.List.{List, [], ◌∷◌}
 use Prim.Native.Nat.{ℕ, zero, suc, ◌+◌, ◌<◌}
-use native.Mathlib.Nat.{add_zero, zero-add, add-suc, suc-add}
+use native.Mathlib.Nat.{add-zero, zero-add, add-suc, suc-add}
 use native.Mathlib.Omega.{arith}
 use lib.Dec.{T}
 use lib.ListN.{length, get_or}
@@ -16,7 +16,7 @@ every test i (x ∷ xs) = test i x && every test (suc i) xs
 
 from : (test : ℕ → ℕ → Bool) (xs : List ℕ) (i : ℕ) → T (every test i xs) → (k : ℕ) → k < length xs → T (test (i + k) (get_or xs k 0))
 from test [] i t k h = absurd (omega arith)
-from test (x ∷ xs) i t zero h = subst (λ (n : ℕ). T (test n x)) (sym (add_zero i)) (and_left (test i x) (every test (suc i) xs) t)
+from test (x ∷ xs) i t zero h = subst (λ (n : ℕ). T (test n x)) (sym (add-zero i)) (and_left (test i x) (every test (suc i) xs) t)
 from test (x ∷ xs) i t (suc k) h =
     subst (λ (n : ℕ). T (test n (get_or xs k 0))) (suc-add i k ∙ sym (add-suc i k))
     (from test xs (suc i) (and_right (test i x) (every test (suc i) xs) t) k (omega arith))

@@ -5,7 +5,7 @@ use mathlib.Core.Bool.{false, not}
 use mathlib.Core.List.{List, ◌++◌}
 use Prim.Native.Nat.{ℕ, zero, suc, ◌-◌, ◌≤◌, ◌<◌}
 use native.Mathlib.Omega.{arith}
-use borrow.Author.Tests.{eq_eqb, ne_eqb, le-ltb, eqb-true, eqb-false, ltb-false, not-false}
+use borrow.Author.Tests.{eq-eqb, ne_eqb, le-ltb, eqb-true, eqb-false, ltb-false, not-false}
 use lib.Dec.{eqb, ltb}
 use lib.ListN.{length, take, drop, get_or, replicate, length-append, length-replicate, length_map}
 use lib.Seq.{take_at, length-take-le}
@@ -104,7 +104,7 @@ module _ (s : Shape) (r : Record) (u : Usable s) (h : OfShape s r) (old : List �
 
 module _ (s : Shape) (u : Usable s) where
   read_fields_lem : (key : List ℕ) → length key ≡ bytes_in (kinds_in s) → read_of s key ≡ mapped record_of (read_fields 0 (kinds_in s) key)
-  read_fields_lem key l = read_by s key ∙ rw (good_count s.count u.some u.few, eq_eqb (length key) (bytes_in (kinds_in s)) l)
+  read_fields_lem key l = read_by s key ∙ rw (good_count s.count u.some u.few, eq-eqb (length key) (bytes_in (kinds_in s)) l)
 
   pub read_of_written : (r : Record) → OfShape s r → read_of s (record_key r) ≡ gives (normal_record r)
   read_of_written r h =

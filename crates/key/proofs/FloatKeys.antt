@@ -5,7 +5,7 @@ use mathlib.Core.Logic.{inl, inr}
 use mathlib.Core.Bool.{true, false, ◌||◌, cond}
 use Prim.Native.Nat.{ℕ, zero, suc, ◌+◌, ◌-◌, ◌*◌, ◌≤◌, ◌<◌}
 use native.Mathlib.Omega.{arith}
-use borrow.Author.Tests.{lt-ltb, le-ltb, lt-leb, le-leb, eq_eqb, ne_eqb, ltb-false}
+use borrow.Author.Tests.{lt-ltb, le-ltb, lt-leb, le-leb, eq-eqb, ne_eqb, ltb-false}
 use lib.Dec.{eqb}
 use lib.Pow.{pow_pos}
 use lib.IntN.{ℤ, nat_abs}
@@ -28,7 +28,7 @@ module _ (p e : ℕ) where
   key_clear b h = simp (ne_eqb b (sign_of p e) (λ q. omega arith), lt-leb _ _ h)
 
   key_zero : (b : ℕ) → b ≡ sign_of p e → float_key (sign_of p e) b ≡ sign_of p e
-  key_zero b q = simp (eq_eqb b (sign_of p e) q)
+  key_zero b q = simp (eq-eqb b (sign_of p e) q)
 
   key_set : (b : ℕ) → sign_of p e < b → float_key (sign_of p e) b ≡ 2 * sign_of p e - 1 - b
   key_set b h = let l : sign_of p e ≤ b = omega arith in simp (ne_eqb b (sign_of p e) (λ q. omega arith), le-leb _ _ l)
@@ -92,7 +92,7 @@ module _ (p e : ℕ) where
     | inl l ↦
         let g : sign_of p e ≤ sign_of p e + b = omega arith in
         rw (key_clear b l, from_high (sign_of p e + b) g, ne_eqb b (sign_of p e) (λ q. omega arith)) (omega arith)
-    | inr (inl q) ↦ rw (key_zero b q, from_high (sign_of p e) (omega arith), eq_eqb b (sign_of p e) q) (omega arith)
+    | inr (inl q) ↦ rw (key_zero b q, from_high (sign_of p e) (omega arith), eq-eqb b (sign_of p e) q) (omega arith)
     | inr (inr l) ↦
         let k : 2 * sign_of p e - 1 - b < sign_of p e = omega arith in
         rw (key_set b l, from_low (2 * sign_of p e - 1 - b) k, ne_eqb b (sign_of p e) (λ q. omega arith)) (omega arith)
@@ -105,7 +105,7 @@ module _ (p e : ℕ) where
     | inl l ↦ let d = ne_eqb b (sign_of p e) (λ q. omega arith) in rw (d, n, d)
     | inr (inl q) ↦
         let z = weight in
-        rw (eq_eqb b (sign_of p e) q, abs_clear p e 0 z, le-ltb (inf_of p e) 0 (omega arith), ne_eqb 0 (sign_of p e) (λ r. omega arith))
+        rw (eq-eqb b (sign_of p e) q, abs_clear p e 0 z, le-ltb (inf_of p e) 0 (omega arith), ne_eqb 0 (sign_of p e) (λ r. omega arith))
     | inr (inr g) ↦ let d = ne_eqb b (sign_of p e) (λ q. omega arith) in rw (d, n, d)
   ])
 

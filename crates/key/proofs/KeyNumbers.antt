@@ -3,7 +3,7 @@ use mathlib.Core.Path.{◌≡◌, refl, sym, ◌∙◌, ap, subst}
 use Prim.Native.Nat.{ℕ, suc, ◌+◌, ◌-◌, ◌*◌, ◌%◌, ◌^◌, ◌≤◌, ◌<◌}
 use native.Mathlib.Nat.{mod-eq_of_lt, mod-eq-sub-mod, one-mul, pow-suc}
 use native.Mathlib.Omega.{arith}
-use borrow.Author.Tests.{eq_eqb, ne_eqb, lt-ltb, le-ltb, le-leb, lt-leb}
+use borrow.Author.Tests.{eq-eqb, ne_eqb, lt-ltb, le-ltb, le-leb, lt-leb}
 use lib.IntN.{ℤ, pos, negsuc}
 use lib.Pow.{pow_mono, pow-lt}
 use Rattle.float.specs.Format.{fraction_of, exponent_of, abs_of}
@@ -38,7 +38,7 @@ module _ (half n : ℕ) where
       sym (mod-eq-sub-mod g ∙ mod-eq_of_lt s ∙ r)
 
   pub number_zero : n ≡ half → half ≡ float_key half n
-  number_zero q = rw (eq_eqb n half q)
+  number_zero q = rw (eq-eqb n half q)
 
   pub number_negative : (n ≡ half → ⊥) → half ≤ n → half - 1 - (n - half) ≡ float_key half n
   number_negative d h = rw (ne_eqb n half d, le-leb half n h) (omega arith)

@@ -2,7 +2,7 @@
 use mathlib.Core.Path.{◌≡◌, refl, sym, ◌∙◌, ap}
 use mathlib.Core.List.{List, [], ◌∷◌, ◌++◌, append_assoc}
 use Prim.Native.Nat.{ℕ, zero, suc, ◌+◌, ◌-◌, ◌*◌, ◌/◌, ◌%◌, ◌^◌, ◌≤◌, ◌<◌}
-use native.Mathlib.Nat.{add_assoc, add_zero, pow-suc, pow-le-pow_right, lt_of_lt_of_le, zero-lt-suc}
+use native.Mathlib.Nat.{add_assoc, add-zero, pow-suc, pow-le-pow_right, lt_of_lt_of_le, zero-lt-suc}
 use native.Mathlib.Numerals.{add-one, sub-one}
 use native.Mathlib.Omega.{arith}
 use lib.ListN.{length, take, drop, get_or, set, length-append, length-drop, length-set, take-append-drop}
@@ -15,7 +15,7 @@ use Rattle.bytewise.proofs.BigEndian.{length_big, number_snoc}
 
 pub put_nil : (at : ℕ) (l : List ℕ) → put at [] l ≡ l
 unfolding put
-put_nil at l = rw (add_zero at) (take-append-drop at l)
+put_nil at l = rw (add-zero at) (take-append-drop at l)
 
 module _ (at : ℕ) (k l : List ℕ) (h : at + length k ≤ length l) where
   head_length : length (take at l ++ k) ≡ at + length k

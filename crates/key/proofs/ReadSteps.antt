@@ -3,13 +3,13 @@ use mathlib.Core.Path.{◌≡◌, refl, sym, ◌∙◌, ap}
 use mathlib.Core.Bool.{Bool, true, false, not}
 use mathlib.Core.List.{List, [], ◌∷◌, ◌++◌, append_assoc}
 use Prim.Native.Nat.{ℕ, zero, suc, ◌+◌, ◌-◌, ◌*◌, ◌≤◌, ◌<◌}
-use native.Mathlib.Nat.{zero-add, add_zero}
+use native.Mathlib.Nat.{zero-add, add-zero}
 use native.Mathlib.Numerals.{add-one}
 use native.Mathlib.Omega.{arith}
-use borrow.Author.Tests.{eq_eqb, ne_eqb}
+use borrow.Author.Tests.{eq-eqb, ne_eqb}
 use lib.Dec.{eqb}
 use lib.ListN.{length, take, drop, get_or, set, replicate, length_map, length-set, take-append-drop, drop_of_length-le, get_or_map}
-use lib.Seq.{take-suc, take_all, drop_cons, drop-drop, drop-set-lt, take-suc-set, get_or-take, length-take-le}
+use lib.Seq.{take-suc, take_all, drop-cons, drop-drop, drop-set-lt, take-suc-set, get_or-take, length-take-le}
 use Rattle.float.proofs.Tests.{clash}
 use Rattle.value.proofs.Outcomes.{refuse_passes, mapped_gives}
 use Rattle.value.specs.declared.Kind.{Kind}
@@ -59,7 +59,7 @@ finish_field r at v (refuses m p) h = refl
 
 finish_none : (r : Record) (at : ℕ) → recorded_of (gives r) ≡ finished_at at r (gives [])
 finish_none r at = ap (λ (l : List Field). recorded_of (gives (record { fields = l; count = r.count })))
-    (sym (rw (add_zero at) (take-append-drop at r.fields)))
+    (sym (rw (add-zero at) (take-append-drop at r.fields)))
 
 -- a blank record filled from the start
 drop_replicate : (n k : ℕ) (f : Field) → drop k (replicate n f) ≡ replicate (n - k) f
@@ -119,7 +119,7 @@ module _ (s : Shape) (few : s.count ≤ 12) (twelve : length s.places ≡ 12) wh
         ∙ ap (λ (p : Place). p.kind) (get_or-take s.count s.places at d h)
 
     kinds_left : drop at ks ≡ (get_or s.places at d).kind ∷ drop (suc at) ks
-    kinds_left = drop_cons ks at d.kind (omega (arith, count_kinds)) ∙ ap (λ (k : Kind). k ∷ drop (suc at) ks) kind_here
+    kinds_left = drop-cons ks at d.kind (omega (arith, count_kinds)) ∙ ap (λ (k : Kind). k ∷ drop (suc at) ks) kind_here
 
     kinds_passed : take (suc at) ks ≡ take at ks ++ ((get_or s.places at d).kind ∷ [])
     kinds_passed = take-suc ks at d.kind (omega (arith, count_kinds)) ∙ ap (λ (k : Kind). take at ks ++ (k ∷ [])) kind_here
@@ -216,7 +216,7 @@ module _ (s : Shape) (key : List ℕ) {t : Bool} (count_is : t ≡ bad_count s.c
       omega (arith, n-is),
       refl,
       finish_blank s.count (read_fields 0 (kinds_in s) key) (λ fs q. read_length 0 (kinds_in s) key fs q ∙ count_kinds s few twelve)
-          ∙ sym (ap recorded_of (read_by s key) ∙ rw (← count_is, count_good, ← n-is, eq_eqb (length key) n h)),
+          ∙ sym (ap recorded_of (read_by s key) ∙ rw (← count_is, count_good, ← n-is, eq-eqb (length key) n h)),
       omega arith,
       few,
     )

@@ -3,7 +3,7 @@
 use mathlib.Core.Path.{◌≡◌, refl, sym, ap, ◌∙◌}
 use mathlib.Core.Logic.{inl, inr}
 use Prim.Native.Nat.{ℕ, suc, ◌+◌, ◌-◌, ◌*◌, ◌%◌, ◌≤◌, ◌<◌}
-use native.Mathlib.Nat.{mod-eq_of_lt, add-mod_right, mod_mod}
+use native.Mathlib.Nat.{mod-eq_of_lt, add-mod_right, mod-mod}
 use native.Mathlib.Omega.{arith}
 use lib.IntN.{ℤ, pos, negsuc, nat_abs}
 use Rattle.float.specs.Order.{order_n, order_z}
@@ -52,12 +52,12 @@ module _ (h : ℕ) where
   turned n = (n + h) % (2 * h) % (2 * h)
 
   turned_low : (n : ℕ) → n < h → turned n ≡ n + h
-  turned_low n l = mod_mod (n + h) (2 * h) ∙ mod-eq_of_lt (omega arith)
+  turned_low n l = mod-mod (n + h) (2 * h) ∙ mod-eq_of_lt (omega arith)
 
   turned_high : (n : ℕ) → h ≤ n → n < 2 * h → turned n ≡ n - h
   turned_high n g l =
       let q : n + h ≡ n - h + 2 * h = omega arith in
-      mod_mod (n + h) (2 * h) ∙ ap (λ (m : ℕ). m % (2 * h)) q ∙ add-mod_right (n - h) (2 * h) ∙ mod-eq_of_lt (omega arith)
+      mod-mod (n + h) (2 * h) ∙ ap (λ (m : ℕ). m % (2 * h)) q ∙ add-mod_right (n - h) (2 * h) ∙ mod-eq_of_lt (omega arith)
 
   -- what is read of a number
   read_low : (n : ℕ) → n < h → from_twos h (turned n) ≡ negsuc (h - 1 - n)

@@ -9,7 +9,7 @@ use native.Mathlib.Omega.{arith}
 use borrow.Author.Tests.{lt-ltb, le-ltb}
 use lib.Dec.{ltb}
 use lib.ListN.{length, take, drop, get_or, length-append, length_map, take-append-drop, drop_of_length-le}
-use lib.Seq.{take-suc, take_all, drop_cons, get_or-take, length-take-le}
+use lib.Seq.{take-suc, take_all, drop-cons, get_or-take, length-take-le}
 use Rattle.float.specs.Number.{is_none}
 use Rattle.value.specs.declared.Kind.{Kind}
 use Rattle.value.specs.declared.Value.{Value}
@@ -118,7 +118,7 @@ module _ (r : Record) (few : r.count ≤ 12) (twelve : length r.fields ≡ 12) w
   module _ (at : ℕ) (d : Field) (h : at < r.count) (p : Passed r at) {t : Bool} (t-is : t ≡ is_none (exact_of (get_or r.fields at d).value)) where
     pass_here : (n : ℕ) → chain (nan_rules 0 fs) (gives n) ≡ refuse_if t 1 at (chain (nan_rules (suc at) (drop (suc at) fs)) (gives n))
     unfolding each_of
-    pass_here n = p.1 n ∙ rw (drop_cons fs at d (inside at d h), own at d h, ← t-is)
+    pass_here n = p.1 n ∙ rw (drop-cons fs at d (inside at d h), own at d h, ← t-is)
 
     pub pass_step : t ≡ false → Passed r (at + 1)
     pass_step f = (omega arith, λ n. pass_here n ∙ rw (f, add-one at))

@@ -7,7 +7,7 @@ use native.Mathlib.Omega.{arith}
 use native.Mathlib.Nat.{sub-zero}
 use lib.ListN.{length}
 use lib.Seq.{length-take-le}
-use borrow.Author.Tests.{eq_eqb, ne_eqb}
+use borrow.Author.Tests.{eq-eqb, ne_eqb}
 use Rattle.float.proofs.Tests.{neither}
 use Rattle.value.specs.Kinds.{kind_of, kind_number}
 use Rattle.cmp.specs.Compare.{kinds_differ}
@@ -66,4 +66,4 @@ module _ (a b : Record) where
       pub alike_here : m ≡ n → shapes_differ (left_in a (at + 1) (count - (at + 1))) (left_in b (at + 1) (count - (at + 1))) ≡ whole
       alike_here q =
           let e : count - (at + 1) ≡ count - at - 1 = omega arith in
-          rw (← s, step, ← u, ← v, eq_eqb m n q, e)
+          rw (← s, step, ← u, ← v, eq-eqb m n q, e)

@@ -4,10 +4,10 @@ use mathlib.Core.Path.{◌≡◌, refl, sym, ◌∙◌}
 use mathlib.Core.Bool.{false, ◌||◌}
 use mathlib.Core.List.{List, ◌∷◌}
 use native.Mathlib.Omega.{arith}
-use native.Mathlib.Nat.{add_zero}
+use native.Mathlib.Nat.{add-zero}
 use native.Mathlib.Numerals.{add-one, sub-one}
 use lib.ListN.{length, take, drop}
-use lib.Seq.{drop_cons}
+use lib.Seq.{drop-cons}
 use Rattle.float.specs.declared.Order.{Order}
 use Rattle.float.specs.declared.Order.TheVariants.{Less, Equal, Greater, Unordered}
 use Rattle.float.specs.Order.{is_equal, or_else}
@@ -29,20 +29,20 @@ left_in r at left = take left (drop at r.fields)
 left_cons : (l : List Field) (at left : ℕ) → (left ≡ 0 → ⊥) → at < length l
     → take left (drop at l) ≡ field_for (value_at l at) ∷ take (left - 1) (drop (at + 1) l)
 left_cons l at zero some h = absurd (some refl)
-left_cons l at (suc n) some h = rw (add-one at, sub-one (suc n), drop_cons l at (field_for (U8 0)) h)
+left_cons l at (suc n) some h = rw (add-one at, sub-one (suc n), drop-cons l at (field_for (U8 0)) h)
 
 -- an order that is not Equal decides
 stops : (at : ℕ) (o p : Order) → is_equal o ≡ false → ◌≡◌ {A = Decision} (record { order = o; at = at }) (record { order = or_else o p; at = at + 0 })
-stops at Less p h = rw (add_zero at)
+stops at Less p h = rw (add-zero at)
 stops at Equal p h = cc
-stops at Greater p h = rw (add_zero at)
-stops at Unordered p h = rw (add_zero at)
+stops at Greater p h = rw (add-zero at)
+stops at Unordered p h = rw (add-zero at)
 
 -- with no field left all were Equal
 pub decided_equal : (a b : Record) (at left : ℕ) → left ≡ 0
     → ◌≡◌ {A = Decision} (record { order = Equal; at = at }) (decision_from at (left_in a at left) (left_in b at left))
 unfolding lexical_of deciding_of
-decided_equal a b at left h = rw (h, add_zero at)
+decided_equal a b at left h = rw (h, add-zero at)
 
 module _ (a b : Record) (at left : ℕ) (ta : Twelve a) (tb : Twelve b) (some : left ≡ 0 → ⊥) (h : at + left ≤ 12) where
   here : (r : Record) → Twelve r → left_in r at left ≡ field_for (value_at r.fields at) ∷ left_in r (at + 1) (left - 1)

@@ -1,5 +1,5 @@
 -- An infinity is told by abs alone, minus zero by its one pattern.
-use Rattle.std.proofs.Common.{◌≡◌, ℕ, ◌+◌, ◌-◌, ◌<◌, ◌≤◌, Bool, true, false, ◌||◌, T, eqb, [], ℤ, pos, negsuc, sym, refl, ap, ◌∙◌, inl, inr, arith, eq_eqb, ne_eqb}
+use Rattle.std.proofs.Common.{◌≡◌, ℕ, ◌+◌, ◌-◌, ◌<◌, ◌≤◌, Bool, true, false, ◌||◌, T, eqb, [], ℤ, pos, negsuc, sym, refl, ap, ◌∙◌, inl, inr, arith, eq-eqb, ne_eqb}
 use lib.Ieee.{binary32, binary64}
 use types.Run.{OneOf}
 use denote.Enum.Declared.{tag_of}
@@ -32,7 +32,7 @@ module _ (k p e b : ℕ) where
   infinite_pattern : is_infinite (exact.times k (pattern_of p e b)) ≡ infinite_of p e b
   infinite_pattern = elim (three_ways (abs_of p e b) (inf_of p e)) [
     | inl l ↦ meant (pattern_finite p e b l) ∙ sym (ne_eqb (abs_of p e b) (inf_of p e) (λ q. omega arith))
-    | inr (inl q) ↦ meant (pattern_infinite p e b q) ∙ sym (eq_eqb (abs_of p e b) (inf_of p e) q)
+    | inr (inl q) ↦ meant (pattern_infinite p e b q) ∙ sym (eq-eqb (abs_of p e b) (inf_of p e) q)
     | inr (inr g) ↦ meant (pattern_nan p e b g) ∙ sym (ne_eqb (abs_of p e b) (inf_of p e) (λ q. omega arith))
   ]
 
@@ -45,7 +45,7 @@ module _ (p e b : ℕ) where
   with_sign_lem : sign_of p e ≤ b → eqb (b - sign_of p e) (inf_of p e) ≡ (eqb b (sign_of p e + inf_of p e) || false)
   with_sign_lem g = elim (three_ways b (sign_of p e + inf_of p e)) [
     | inl l ↦ rw (ne_eqb b (sign_of p e + inf_of p e) (λ q. omega arith)) (ne_eqb (b - sign_of p e) (inf_of p e) (λ q. omega arith))
-    | inr (inl q) ↦ rw (eq_eqb b (sign_of p e + inf_of p e) q) (eq_eqb (b - sign_of p e) (inf_of p e) (omega arith))
+    | inr (inl q) ↦ rw (eq-eqb b (sign_of p e + inf_of p e) q) (eq-eqb (b - sign_of p e) (inf_of p e) (omega arith))
     | inr (inr m) ↦ rw (ne_eqb b (sign_of p e + inf_of p e) (λ q. omega arith)) (ne_eqb (b - sign_of p e) (inf_of p e) (λ q. omega arith))
   ]
 

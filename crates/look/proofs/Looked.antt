@@ -1,6 +1,6 @@
 -- Looking at the blocks is looking at the whole: a fold over joined lists. Below 2^64 its counts are those of the samples, and its answer is
 -- the row's: the first sample that is refused decides.
-use Rattle.std.proofs.Common.{◌≡◌, ℕ, suc, ◌+◌, ◌^◌, ◌<◌, ◌≤◌, Bool, true, false, cond, not, List, [], ◌∷◌, ◌++◌, length, sym, refl, ap, ◌∙◌, inl, inr, append-nil, add_zero, mod-eq_of_lt, zero-add, add-one, arith, lit≤, eq_eqb, ne_eqb}
+use Rattle.std.proofs.Common.{◌≡◌, ℕ, suc, ◌+◌, ◌^◌, ◌<◌, ◌≤◌, Bool, true, false, cond, not, List, [], ◌∷◌, ◌++◌, length, sym, refl, ap, ◌∙◌, inl, inr, append-nil, add-zero, mod-eq_of_lt, zero-add, add-one, arith, lit≤, eq-eqb, ne_eqb}
 use native.Mathlib.Nat.{zero-mod}
 use Rattle.float.proofs.Naturals.{lt_or_ge}
 use Rattle.value.specs.declared.Kind.{Kind}
@@ -65,7 +65,7 @@ count_bound t n h = let q = count_step t n 0 h in let b = one_more t in omega (a
 module _ (to : Kind) (count : Seen → ℕ) (test : Value → Bool) (step : (s : Seen) (v : Value) → count (noted_of to s v) ≡ count_if (test v) (count s)) where
   all_counted : (s : Seen) (vs : List Value) → count s + length vs < 2 ^ 64 → count (all_noted to s vs) ≡ count s + how_many test vs
   unfolding all_noted how_many
-  all_counted s [] h = sym (add_zero (count s))
+  all_counted s [] h = sym (add-zero (count s))
   all_counted s (v ∷ vs) h =
       let one = step s v in
       let bound = count_bound (test v) (count s) (omega arith) in
@@ -176,7 +176,7 @@ module _ (from to : Kind) (p : List ℕ) (short : length p < 2 ^ 64) where
     highest,
     refusable,
     all_answer to nothing_seen (samples_of from p) few
-        ∙ sym (ap (λ (t : Bool). refuse_if (not t) 9 (count_of from p) (row_answer (bits_to to) 0 (samples_of from p))) (eq_eqb (left_of from p) 0 ends)),
+        ∙ sym (ap (λ (t : Bool). refuse_if (not t) 9 (count_of from p) (row_answer (bits_to to) 0 (samples_of from p))) (eq-eqb (left_of from p) 0 ends)),
   )
 
   left_tells : (left_of from p ≡ 0 → ⊥) → Tells from to p (left_noted all)

@@ -1,5 +1,5 @@
 -- What was seen grows sample by sample; so looking at a block behind another is looking at both joined.
-use Rattle.std.proofs.Common.{◌≡◌, ℕ, ◌+◌, ◌<◌, Bool, true, false, cond, List, [], ◌∷◌, ◌++◌, length, get_or, take, sym, refl, ap, ◌∙◌, true≢false, add-one, take-suc, eq_eqb, ne_eqb}
+use Rattle.std.proofs.Common.{◌≡◌, ℕ, ◌+◌, ◌<◌, Bool, true, false, cond, List, [], ◌∷◌, ◌++◌, length, get_or, take, sym, refl, ap, ◌∙◌, true≢false, add-one, take-suc, eq-eqb, ne_eqb}
 use Rattle.value.specs.declared.Kind.{Kind}
 use Rattle.value.specs.declared.Value.{Value}
 use Rattle.value.specs.Outcome.{Outcome, gives, refuses}
@@ -83,7 +83,7 @@ module _ (to : Kind) where
 module _ (from to : Kind) (s : Seen) (src : List ℕ) where
   pub look_whole : left_of from src ≡ 0 → all_noted to s (samples_of from src) ≡ look_of from to s src
   unfolding look_of
-  look_whole none = let all = all_noted to s (samples_of from src) in sym (ap (λ (t : Bool). cond t all (left_noted all)) (eq_eqb (left_of from src) 0 none))
+  look_whole none = let all = all_noted to s (samples_of from src) in sym (ap (λ (t : Bool). cond t all (left_noted all)) (eq-eqb (left_of from src) 0 none))
 
   pub look_left : (left_of from src ≡ 0 → ⊥) → left_noted (all_noted to s (samples_of from src)) ≡ look_of from to s src
   unfolding look_of

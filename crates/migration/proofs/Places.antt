@@ -6,7 +6,7 @@ use mathlib.Core.Bool.{Bool, true, false, not, cond}
 use mathlib.Core.List.{List, [], ◌∷◌, ◌++◌}
 use mathlib.Core.Logic.{inl, inr}
 use mathlib.Core.Path.{◌≡◌, refl, sym, ◌∙◌, ap, subst}
-use borrow.Author.Tests.{eq_eqb, ne_eqb}
+use borrow.Author.Tests.{eq-eqb, ne_eqb}
 use lib.Dec.{eqb}
 use lib.ListN.{length, get_or, get_or-append}
 use lib.Seq.{get_or-append-add}
@@ -47,7 +47,7 @@ module _ (from : Kind) (s : State) (block : List ℕ) {answer : Rowed} {f : Refu
 
   -- bytes left over
   pub none_left : f.number ≡ 9 → Nothing ≡ sample_after from s block (rowed_outcome answer)
-  none_left q = sym (by_number (eq_eqb f.number 9 q))
+  none_left q = sym (by_number (eq-eqb f.number 9 q))
 
   pub at_index : (f.number ≡ 9 → ⊥) → {i : ℕ} → i ≡ f.place - s.progress.samples → {found : Found} → found ≡ here i
       → found ≡ sample_after from s block (rowed_outcome answer)
@@ -91,7 +91,7 @@ module _ {B : Type 0} (conv : Value → Outcome B) (d : Value) (xs ys : List Val
 module _ (from to : Kind) where
   whole_answer : (p : List ℕ) → left_of from p ≡ 0 → answer_of from to p ≡ row_answer (bits_to to) 0 (samples_of from p)
   unfolding answer_of
-  whole_answer p none = ap (λ (t : Bool). refuse_if (not t) 9 (count_of from p) (row_answer (bits_to to) 0 (samples_of from p))) (eq_eqb (left_of from p) 0 none)
+  whole_answer p none = ap (λ (t : Bool). refuse_if (not t) 9 (count_of from p) (row_answer (bits_to to) 0 (samples_of from p))) (eq-eqb (left_of from p) 0 none)
 
   left_answer : (p : List ℕ) → (left_of from p ≡ 0 → ⊥) → answer_of from to p ≡ refuses 9 (count_of from p)
   unfolding answer_of

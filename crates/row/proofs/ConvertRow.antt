@@ -4,7 +4,7 @@ use mathlib.Core.Bool.{Bool, false, not}
 use mathlib.Core.List.{List, map}
 use Prim.Native.Nat.{ℕ, ◌≤◌, ◌<◌}
 use native.Mathlib.Omega.{arith}
-use borrow.Author.Tests.{eq_eqb, ne_eqb}
+use borrow.Author.Tests.{eq-eqb, ne_eqb}
 use lib.Dec.{eqb}
 use lib.ListN.{length, get_or}
 use Rattle.value.specs.Outcome.{Outcome, gives, refuses, Success, done}
@@ -29,11 +29,11 @@ module _ {A B : Type 0} (conv : A → Outcome B) (src : List A) (dst : List B) w
       (same : length src ≡ length dst) (all : (i : ℕ) → i < length src → P (get_or src i d)) (at : ℕ) (at-is : at ≡ first test src) where
     pub convert_refused : at < length src → (m p : ℕ) → conv (get_or src at d) ≡ refuses m p → Answers (refuses m at) dst
     unfolding convert_answer convert_exit
-    convert_refused = sample_refused conv test f P d good lengths_differ 9 src dst (ap not (eq_eqb _ _ same)) all at at-is
+    convert_refused = sample_refused conv test f P d good lengths_differ 9 src dst (ap not (eq-eqb _ _ same)) all at at-is
 
     pub convert_done : (now : List B) → length src ≤ at → now ≡ map f src → Answers (gives done) now
     unfolding convert_answer convert_exit
-    convert_done = all_done conv test f P d good lengths_differ 9 src dst (ap not (eq_eqb _ _ same)) all at at-is same
+    convert_done = all_done conv test f P d good lengths_differ 9 src dst (ap not (eq-eqb _ _ same)) all at at-is same
 
   -- where no sample is refused
   pub always_done : (f : A → B) (P : A → Type 0) (d : A) → ((x : A) → P x → conv x ≡ gives (f x)) → length src ≡ length dst

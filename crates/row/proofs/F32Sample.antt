@@ -2,7 +2,7 @@
 use mathlib.Core.Path.{◌≡◌, refl, sym, ◌∙◌, ap}
 use mathlib.Core.Bool.{Bool, true, false, cond}
 use Prim.Native.Nat.{ℕ, ◌+◌, ◌-◌, ◌*◌, ◌/◌, ◌%◌, ◌^◌, ◌≤◌}
-use native.Mathlib.Nat.{eq_of_mul-eq-mul_right, div-add-mod', add_zero, zero-mul}
+use native.Mathlib.Nat.{eq_of_mul-eq-mul_right, div-add-mod', add-zero, zero-mul}
 use borrow.Author.Tests.{le-ltb, ltb-true}
 use lib.Dec.{lit<}
 use lib.Ieee.{Float, nan, inf, fin, binary32, is_nan, to_bits}
@@ -76,7 +76,7 @@ module _ (x : Float) where
         whole_steps : a * step_of f32 % unit ≡ 0 → a ≡ a * step_of f32 / unit * 2 ^ 149
         whole_steps r =
             let n = a * step_of f32 / unit in
-            let m : a * step_of f32 ≡ n * unit = sym (div-add-mod' (a * step_of f32) unit) ∙ ap (λ (k : ℕ). n * unit + k) r ∙ add_zero (n * unit) in
+            let m : a * step_of f32 ≡ n * unit = sym (div-add-mod' (a * step_of f32) unit) ∙ ap (λ (k : ℕ). n * unit + k) r ∙ add-zero (n * unit) in
             eq_of_mul-eq-mul_right (step_of f32) (step_pos f32) a (n * 2 ^ 149) (m ∙ sym (steps_units n))
 
     module _ (n : ℕ) (w : a ≡ n * 2 ^ 149) where

@@ -5,7 +5,7 @@ use mathlib.Core.List.{List, map}
 use Prim.Native.Nat.{ℕ, ◌*◌, ◌^◌, ◌≤◌, ◌<◌}
 use native.Mathlib.Nat.{zero-mul}
 use native.Mathlib.Omega.{arith}
-use borrow.Author.Tests.{le-ltb, ltb-false, eq_eqb, eqb-true}
+use borrow.Author.Tests.{le-ltb, ltb-false, eq-eqb, eqb-true}
 use lib.Dec.{T, ltb, le→leb, lit≤}
 use lib.IntN.{pos}
 use lib.ListN.{length, get_or}
@@ -63,7 +63,7 @@ minus_zero_lem = refl
 
 minus_zero_bits : (b : ℕ) → pattern_of 23 8 b ≡ finite true 0 → b ≡ 0x8000_0000
 minus_zero_bits b q = eqb-true b 0x8000_0000
-    (sym (minus_zero_float f32 b) ∙ ap (λ (x : Exact). is_minus_zero (times (step_of f32) x)) q ∙ eq_eqb (0 * step_of f32) 0 (zero-mul (step_of f32)))
+    (sym (minus_zero_float f32 b) ∙ ap (λ (x : Exact). is_minus_zero (times (step_of f32) x)) q ∙ eq-eqb (0 * step_of f32) 0 (zero-mul (step_of f32)))
 
 -- ---- one sample
 

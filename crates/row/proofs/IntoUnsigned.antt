@@ -5,7 +5,7 @@ use mathlib.Core.List.{List, map}
 use Prim.Native.Nat.{ℕ, ◌-◌, ◌*◌, ◌/◌, ◌%◌, ◌^◌, ◌≤◌, ◌<◌}
 use native.Mathlib.Nat.{mul-div_cancel, mul-mod_left, mul-pos, zero-mod}
 use native.Mathlib.Omega.{arith}
-use borrow.Author.Tests.{eq_eqb, ne_eqb, le-ltb, ltb-true, ltb-false}
+use borrow.Author.Tests.{eq-eqb, ne_eqb, le-ltb, ltb-true, ltb-false}
 use lib.Dec.{ltb}
 use lib.ListN.{length, get_or}
 use lib.Pow.{pow_pos}
@@ -50,12 +50,12 @@ module _ (to : Kind) (k : ℕ) (form : form_of to ≡ unsigned k) where
     into_outside s h =
         let above : cond s 0 (2 ^ k - 1) < n = ltb-true _ n (sym (limit_is 0 (2 ^ k - 1) s n) ∙ h) in
         let some : 0 < n * unit = mul-pos (omega arith) unit_pos in
-        simp (form, some_magnitude s (n * unit) some, eq_eqb (n * unit % unit) 0 no_rest, all_units, h)
+        simp (form, some_magnitude s (n * unit) some, eq-eqb (n * unit % unit) 0 no_rest, all_units, h)
 
     pub into_inside : ((x : Exact) → bits_of (made_in to x) ≡ magnitude_for x) → ltb (2 ^ k - 1) n ≡ false
         → mapped bits_of (into_of to (finite false (n * unit))) ≡ gives n
     unfolding into_of
-    into_inside made h = simp (form, eq_eqb (n * unit % unit) 0 no_rest, all_units, h) (ap gives (made (finite false (n * unit)) ∙ all_units))
+    into_inside made h = simp (form, eq-eqb (n * unit % unit) 0 no_rest, all_units, h) (ap gives (made (finite false (n * unit)) ∙ all_units))
 
 pub u8_made : (x : Exact) → bits_of (made_in kind.U8 x) ≡ magnitude_for x
 unfolding made_in

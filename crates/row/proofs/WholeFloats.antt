@@ -2,7 +2,7 @@
 use mathlib.Core.Path.{◌≡◌, refl, sym, ◌∙◌, ap}
 use mathlib.Core.Bool.{true, false}
 use Prim.Native.Nat.{ℕ, zero, suc, ◌+◌, ◌-◌, ◌*◌, ◌/◌, ◌%◌, ◌^◌, ◌≤◌, ◌<◌}
-use native.Mathlib.Nat.{lt_of_lt_of_le, le_of_eq, mul_assoc, mul-div_cancel, mul-mod_left, le-div_iff_mul-le, add_zero}
+use native.Mathlib.Nat.{lt_of_lt_of_le, le_of_eq, mul_assoc, mul-div_cancel, mul-mod_left, le-div_iff_mul-le, add-zero}
 use native.Mathlib.Omega.{arith}
 use lib.Dec.{T}
 use lib.IntN.{pos, nat_abs}
@@ -74,7 +74,7 @@ large_whole p l x h = at_field (x / 2 ^ p) ((le-div_iff_mul-le (pow_pos p)).1 h)
 
 mag_edge : (p l : ℕ) → mag_of p (suc l * 2 ^ p) ≡ 2 ^ p * 2 ^ l
 unfolding mag_of
-mag_edge p l = rw (mul-div_cancel (suc l) (pow_pos p), mul-mod_left (suc l) (2 ^ p), add_zero (2 ^ p)) refl
+mag_edge p l = rw (mul-div_cancel (suc l) (pow_pos p), mul-mod_left (suc l) (2 ^ p), add-zero (2 ^ p)) refl
 
 pub below_large : (p l x : ℕ) → x < suc l * 2 ^ p → mag_of p x < 2 ^ p * 2 ^ l
 below_large p l x h = lt_of_lt_of_le (mag_rises p x (suc l * 2 ^ p) h) (le_of_eq (mag_edge p l))

@@ -5,7 +5,7 @@ use Prim.Native.Nat.{ℕ, zero, suc, ◌+◌, ◌-◌, ◌*◌, ◌^◌, ◌≤�
 use native.Mathlib.Nat.{pow-suc, pow-le-pow_right, lt_of_lt_of_le, zero-lt-suc}
 use native.Mathlib.Omega.{arith}
 use lib.ListN.{length, take, drop, get_or, length-drop, drop_of_length-le}
-use lib.Seq.{length-take-le, drop_cons, get_or-take, get_or-drop}
+use lib.Seq.{length-take-le, drop-cons, get_or-take, get_or-drop}
 use Rattle.bytewise.specs.Numbers.{from_little_endian}
 
 -- the bytes from `left` on make n
@@ -43,7 +43,7 @@ module _ (src : List ℕ) (from width : ℕ) where
         let e : suc j ≡ left = omega arith in
         let cell : get_or part j 0 ≡ x = get_or-take width (drop from src) j 0 (omega arith) ∙ get_or-drop from src j 0 ∙ sym q in
         let split : drop j part ≡ x ∷ drop left part =
-        drop_cons part j 0 (omega (arith, part_length inside)) ∙ ap (λ (y : ℕ). y ∷ drop (suc j) part) cell ∙ ap (λ (i : ℕ). x ∷ drop i part) e in
+        drop-cons part j 0 (omega (arith, part_length inside)) ∙ ap (λ (y : ℕ). y ∷ drop (suc j) part) cell ∙ ap (λ (i : ℕ). x ∷ drop i part) e in
         (omega arith, ap (λ (m : ℕ). m * 256 + x) g.1 ∙ sym (ap from_little_endian split), next_below)
 
   pub gather_end : (n left : ℕ) → left ≤ 0 → Gathered n left → n ≡ from_little_endian part

@@ -2,7 +2,7 @@
 use mathlib.Core.Path.{◌≡◌, refl, sym, ◌∙◌, ap}
 use mathlib.Core.List.{List, [], ◌∷◌, ◌++◌, map-append}
 use Prim.Native.Nat.{ℕ, zero, suc, ◌+◌, ◌*◌, ◌/◌, ◌%◌, ◌^◌, ◌≤◌, ◌<◌}
-use native.Mathlib.Nat.{zero-add, add_zero, add_comm, suc-add, suc-mul, zero-mul, zero-div, div-add-mod', div-le_self, add-mul-div_right}
+use native.Mathlib.Nat.{zero-add, add-zero, add_comm, suc-add, suc-mul, zero-mul, zero-div, div-add-mod', div-le_self, add-mul-div_right}
 use native.Mathlib.Nat.{add-mul-mod_self_right, lt_of_le_of_lt}
 use native.Mathlib.Omega.{arith}
 use lib.ListN.{length, drop, length-append, length-drop}
@@ -31,7 +31,7 @@ numbers_of k bytes = numbers_in (bytes_of k) (count_of k bytes) bytes
 module _ (k : Kind) where
   module _ (p b : List ℕ) (whole : left_of k p ≡ 0) where
     whole_length : length p ≡ count_of k p * bytes_of k
-    whole_length = sym (div-add-mod' (length p) (bytes_of k)) ∙ ap (λ (r : ℕ). count_of k p * bytes_of k + r) whole ∙ add_zero (count_of k p * bytes_of k)
+    whole_length = sym (div-add-mod' (length p) (bytes_of k)) ∙ ap (λ (r : ℕ). count_of k p * bytes_of k + r) whole ∙ add-zero (count_of k p * bytes_of k)
 
     joined_length : length (p ++ b) ≡ length b + count_of k p * bytes_of k
     joined_length = length-append p b ∙ add_comm (length p) (length b) ∙ ap (λ (n : ℕ). length b + n) whole_length

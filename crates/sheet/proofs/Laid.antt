@@ -3,11 +3,11 @@ use mathlib.Core.Path.{◌≡◌, refl, sym, ◌∙◌, ap, subst}
 use mathlib.Core.List.{List, [], ◌∷◌, ◌++◌}
 use Prim.Native.Nat.{ℕ, suc, ◌+◌, ◌≤◌, ◌<◌}
 use Prim.Native.String.{String}
-use native.Mathlib.Nat.{add_zero, add-suc, add_assoc}
+use native.Mathlib.Nat.{add-zero, add-suc, add_assoc}
 use native.Mathlib.Numerals.{add-one}
 use native.Mathlib.Omega.{arith}
 use lib.ListN.{length, set, drop, get_or, length-append, length-set, drop_of_length-le}
-use lib.Seq.{sets, length-sets, drop_cons}
+use lib.Seq.{sets, length-sets, drop-cons}
 use Rattle.bytewise.proofs.Laid.{sets_append}
 use Rattle.sheet.specs.Lines.{ascii, line_of}
 
@@ -18,12 +18,12 @@ module _ (old : List ℕ) (at : ℕ) (text : List ℕ) where
   Laying new i = (length new ≡ length old) × (sets new (at + i) (drop i text) ≡ sets old at text)
 
   pub lay_none : Laying old 0
-  lay_none = (refl, rw (add_zero at) refl)
+  lay_none = (refl, rw (add-zero at) refl)
 
   pub lay_step : (new : List ℕ) (i : ℕ) → i < length text → Laying new i → Laying (set new (at + i) (get_or text i 0)) (i + 1)
   lay_step new i h l = (
     length-set new (at + i) (get_or text i 0) ∙ l.0,
-    rw (add-one i, add-suc at i) (sym (ap (sets new (at + i)) (drop_cons text i 0 h)) ∙ l.1),
+    rw (add-one i, add-suc at i) (sym (ap (sets new (at + i)) (drop-cons text i 0 h)) ∙ l.1),
   )
 
   pub lay_end : (new : List ℕ) (i : ℕ) → length text ≤ i → Laying new i → new ≡ sets old at text

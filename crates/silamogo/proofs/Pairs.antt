@@ -6,7 +6,7 @@ use Prim.Native.Nat.{ℕ, zero, suc, ◌+◌, ◌≤◌, ◌<◌}
 use native.Mathlib.Numerals.{add-one}
 use native.Mathlib.Omega.{arith}
 use lib.ListN.{length, drop, get_or, length_map, drop_of_length-le, get_or_map}
-use lib.Seq.{drop_cons}
+use lib.Seq.{drop-cons}
 use Rattle.value.specs.declared.Value.{Value}
 use Rattle.record.specs.Record.{field_for}
 use Rattle.silamogo.specs.declared.Sample.{Sample}
@@ -22,7 +22,7 @@ module _ (ns : List ℕ) (at : ℕ) (named : Named ns at) where
   module _ (h : at < length ns) {t : Bool} (q : t ≡ unnamed (get_or ns at 0)) where
     named_here : any_unnamed ns ≡ (t || any_unnamed (drop (suc at) ns))
     unfolding any_unnamed
-    named_here = sym named.1 ∙ rw (drop_cons ns at 0 h, ← q)
+    named_here = sym named.1 ∙ rw (drop-cons ns at 0 h, ← q)
 
     pub named_stop : t ≡ true → true ≡ any_unnamed ns
     named_stop f = sym (rw f at named_here)
@@ -64,7 +64,7 @@ module _ (ns bs : List ℕ) (even : length ns ≡ length bs) where
   module _ (at : ℕ) (fitting : Fitting ns bs at) where
     module _ (h : at < length ns) {t : Bool} (q : t ≡ too_wide (sample_for (get_or ns at 0) (get_or bs at 0))) where
       pair_here : drop at ss ≡ sample_for (get_or ns at 0) (get_or bs at 0) ∷ drop (suc at) ss
-      pair_here = drop_cons ss at (sample_for 0 0) (omega (arith, pairs_length ns bs even)) ∙ ap (λ (s : Sample). s ∷ drop (suc at) ss) (pair_at_lem ns bs even at)
+      pair_here = drop-cons ss at (sample_for 0 0) (omega (arith, pairs_length ns bs even)) ∙ ap (λ (s : Sample). s ∷ drop (suc at) ss) (pair_at_lem ns bs even at)
 
       pub fitting_stop : t ≡ true → at ≡ first_wide ss
       unfolding first_wide

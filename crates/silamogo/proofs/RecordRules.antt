@@ -5,7 +5,7 @@ use mathlib.Core.List.{List}
 use Prim.Native.Nat.{ℕ, ◌≤◌, ◌<◌}
 use lib.Dec.{ltb}
 use lib.ListN.{length}
-use borrow.Author.Tests.{lt-ltb, le-ltb, eq_eqb, ne_eqb, eqb-true, not-false}
+use borrow.Author.Tests.{lt-ltb, le-ltb, eq-eqb, ne_eqb, eqb-true, not-false}
 use Rattle.value.specs.declared.Refusal.{Refusal}
 use Rattle.value.specs.Outcome.{Outcome, gives, refuses, refuse_if, lent_after}
 use Rattle.value.proofs.Outcomes.{given_fills}
@@ -115,14 +115,14 @@ module _ (ns bs old : List ℕ) where
         module _ (even : length ns ≡ length bs) {i : ℕ} (i-is : i ≡ first_wide (paired_samples ns bs)) where
           pub write_wide : i < length ns → {m : Measured} → m ≡ measured_of (refuses 4 i) → Left m old
           unfolding key_length
-          write_wide h q = refused_so q (rw (← c-is, counted, ← s-is, named, eq_eqb (length ns) (length bs) even) (wide_stop ns bs even i-is _ h))
+          write_wide h q = refused_so q (rw (← c-is, counted, ← s-is, named, eq-eqb (length ns) (length bs) even) (wide_stop ns bs even i-is _ h))
 
           pub write_given : length ns ≤ i → {r : Record} → r ≡ record_for (paired_samples ns bs) → (w : Written) (new : List ℕ)
               → (written_outcome w ≡ write_of r (length old)) × (new ≡ write_exit r old) → {m : Measured} → m ≡ measured_of (written_outcome w) → Left m new
           unfolding key_length key_exit write_exit
           write_given h q w new e a =
               let past : write_of (record_for (paired_samples ns bs)) (length old) ≡ key_length ns bs (length old) =
-              rw (← c-is, counted, ← s-is, named, eq_eqb (length ns) (length bs) even) (sym (wide_past ns bs even i-is _ h)) in
+              rw (← c-is, counted, ← s-is, named, eq-eqb (length ns) (length bs) even) (sym (wide_past ns bs even i-is _ h)) in
               (a ∙ ap measured_of (rw q at e.0 ∙ past), rw q at e.1 ∙ rw (← past))
 
 -- ---- reading a key
@@ -186,5 +186,5 @@ module _ (ns key old : List ℕ) where
           unfolding record_read read_exit
           read_given a new e =
               let past : read_of (shape_for ns) key ≡ record_read ns key (length old) =
-              rw (← c-is, counted, ← s-is, named, eq_eqb (length ns) (length old) even) in
+              rw (← c-is, counted, ← s-is, named, eq-eqb (length ns) (length old) even) in
               (rw said at e.0 ∙ rw (← past), rw said at e.1 ∙ rw (← past))

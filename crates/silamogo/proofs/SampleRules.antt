@@ -4,7 +4,7 @@ use mathlib.Core.Bool.{Bool, true, false, ◌||◌}
 use mathlib.Core.List.{[], ◌∷◌}
 use Prim.Native.Nat.{ℕ, ◌^◌, ◌≤◌, ◌<◌}
 use native.Mathlib.Omega.{arith}
-use borrow.Author.Tests.{eq_eqb, ne_eqb, leb-false, ltb-false}
+use borrow.Author.Tests.{eq-eqb, ne_eqb, leb-false, ltb-false}
 use lib.Dec.{ltb}
 use Rattle.float.specs.Format.{Format, f16, f32, f64}
 use Rattle.value.specs.declared.Kind.{Kind}
@@ -136,10 +136,10 @@ f16_bits s h q = leb-false (2 ^ 16) s.bits (rw q at h)
 
 module _ {A : Type 0} (tell : Format → ℕ → A) (s : Sample) where
   pub is_f32 : s.kind ≡ 8 → {x : A} → x ≡ tell f32 s.bits → x ≡ of_float tell s
-  is_f32 q e = rw (eq_eqb s.kind 8 q) e
+  is_f32 q e = rw (eq-eqb s.kind 8 q) e
 
   pub is_f64 : (s.kind ≡ 8 → ⊥) → s.kind ≡ 9 → {x : A} → x ≡ tell f64 s.bits → x ≡ of_float tell s
-  is_f64 d q e = rw (ne_eqb s.kind 8 d, eq_eqb s.kind 9 q) e
+  is_f64 d q e = rw (ne_eqb s.kind 8 d, eq-eqb s.kind 9 q) e
 
   pub is_f16 : (s.kind ≡ 8 → ⊥) → (s.kind ≡ 9 → ⊥) → {x : A} → x ≡ tell f16 s.bits → x ≡ of_float tell s
   is_f16 d n e = rw (ne_eqb s.kind 8 d, ne_eqb s.kind 9 n) e

@@ -1,6 +1,6 @@
 -- The five tests are those of the five classes. The bounds of a class begin where those of the class before it end: what a class counts, and
 -- what is counted from its end on, is what is counted from its begin on. So all five count every sample.
-use Rattle.std.proofs.Common.{◌≡◌, ℕ, suc, ◌+◌, ◌^◌, ◌≤◌, Bool, true, false, cond, ◌&&◌, eqb, ltb, leb, List, [], ◌∷◌, length, refl, ap, inl, inr, add_zero, arith, lit≤, le-ltb, lt-ltb, eq_eqb, ne_eqb, le-leb}
+use Rattle.std.proofs.Common.{◌≡◌, ℕ, suc, ◌+◌, ◌^◌, ◌≤◌, Bool, true, false, cond, ◌&&◌, eqb, ltb, leb, List, [], ◌∷◌, length, refl, ap, inl, inr, add-zero, arith, lit≤, le-ltb, lt-ltb, eq-eqb, ne_eqb, le-leb}
 use mathlib.Core.Bool.{and-true}
 use borrow.Author.Tests.{lt-leb}
 use Rattle.float.specs.declared.Class.TheVariants.{Zero, Subnormal, Normal, Infinite, Nan}
@@ -28,13 +28,13 @@ one_more false k = omega arith
 at_or_above : (n x : ℕ) → cond (eqb x n) 1 0 + cond (ltb n x) 1 0 ≡ cond (leb n x) 1 0
 at_or_above n x = elim (three_ways x n) [
   | inl l ↦ rw (ne_eqb x n (λ q. omega arith), le-ltb n x (omega arith), lt-leb n x l) refl
-  | inr (inl q) ↦ rw (eq_eqb x n q, le-ltb n x (omega arith), le-leb n x (omega arith)) refl
+  | inr (inl q) ↦ rw (eq-eqb x n q, le-ltb n x (omega arith), le-leb n x (omega arith)) refl
   | inr (inr g) ↦ rw (ne_eqb x n (λ q. omega arith), lt-ltb n x g, le-leb n x (omega arith)) refl
 ]
 
 below_or_above : (m n x : ℕ) → m ≤ n → cond (leb m x && ltb x n) 1 0 + cond (leb n x) 1 0 ≡ cond (leb m x) 1 0
 below_or_above m n x h = elim (lt_or_ge x n) [
-  | inl l ↦ rw (lt-ltb x n l, lt-leb n x l, and-true (leb m x)) (add_zero (cond (leb m x) 1 0))
+  | inl l ↦ rw (lt-ltb x n l, lt-leb n x l, and-true (leb m x)) (add-zero (cond (leb m x) 1 0))
   | inr g ↦ rw (le-ltb x n g, le-leb n x g, le-leb m x (omega arith)) refl
 ]
 

@@ -1,6 +1,6 @@
 -- Two samples are at distance 0 exactly when their bits are the same, as every pattern has its own position. So the largest distance is 0 exactly when no
 -- place differs.
-use Rattle.std.proofs.Common.{◌≡◌, ℕ, zero, suc, ◌+◌, ◌<◌, ◌≤◌, max, Bool, true, false, cond, not, eqb, ◌⊎◌, List, [], ◌∷◌, length, get_or, ℤ, pos, negsuc, ◌+ℤ◌, ◌-ℤ◌, neg_ℤ, nat_abs, sym, refl, ap, ◌∙◌, inl, inr, le_of_suc-le-suc, not-suc-le-zero, arith, eq_eqb, ne_eqb, eqb-true}
+use Rattle.std.proofs.Common.{◌≡◌, ℕ, zero, suc, ◌+◌, ◌<◌, ◌≤◌, max, Bool, true, false, cond, not, eqb, ◌⊎◌, List, [], ◌∷◌, length, get_or, ℤ, pos, negsuc, ◌+ℤ◌, ◌-ℤ◌, neg_ℤ, nat_abs, sym, refl, ap, ◌∙◌, inl, inr, le_of_suc-le-suc, not-suc-le-zero, arith, eq-eqb, ne_eqb, eqb-true}
 use borrow.Author.Tests.{eqb-false, not_true, not-false}
 use lib.IntN.{+ℤ_idl, +ℤ_comm, +ℤ_invr, -ℤ-+ℤ_cancel}
 use Rattle.float.specs.Format.{position_of}
@@ -39,7 +39,7 @@ module _ (p : Pair) (ps : List Pair) where
 
   first_same : p.left ≡ p.right → how_many is_different ps ≡ 0 → how_many is_different (p ∷ ps) ≡ 0
   unfolding how_many
-  first_same q h = rw (eq_eqb p.left p.right q) h
+  first_same q h = rw (eq-eqb p.left p.right q) h
 
 pub none_wide : (ps : List Pair) → how_many is_different ps ≡ 0 → widest_of ps ≡ 0
 unfolding widest_of

@@ -1,5 +1,5 @@
 -- Two blocks behind others in step are compared as both joined: the places they share follow those before, and every count goes on.
-use Rattle.std.proofs.Common.{◌≡◌, ℕ, ◌+◌, ◌/◌, ◌^◌, ◌≤◌, min, max, List, [], ◌∷◌, ◌++◌, length, sym, refl, ap, ◌∙◌, inl, inr, append-nil, add_zero, add_assoc, arith, length-append}
+use Rattle.std.proofs.Common.{◌≡◌, ℕ, ◌+◌, ◌/◌, ◌^◌, ◌≤◌, min, max, List, [], ◌∷◌, ◌++◌, length, sym, refl, ap, ◌∙◌, inl, inr, append-nil, add-zero, add_assoc, arith, length-append}
 use native.Mathlib.Nat.{mod-add-mod}
 use Rattle.value.specs.declared.Kind.TheVariants.{F32}
 use Rattle.row.specs.Row.{first, how_many}

@@ -1,5 +1,5 @@
 -- All blocks are seen as one, so what is told of two masters is told of the whole of both behind nothing. No count wraps, for none is above `most`.
-use Rattle.std.proofs.Common.{◌≡◌, ℕ, zero, suc, ◌+◌, ◌/◌, ◌<◌, ◌≤◌, min, max, Bool, true, false, not, eqb, ◌⊎◌, List, length, ℤ, pos, negsuc, ◌+ℤ◌, ◌-ℤ◌, neg_ℤ, nat_abs, sym, refl, ap, ◌∙◌, inl, inr, mod-eq_of_lt, zero-add, arith, eq_eqb, eqb-true}
+use Rattle.std.proofs.Common.{◌≡◌, ℕ, zero, suc, ◌+◌, ◌/◌, ◌<◌, ◌≤◌, min, max, Bool, true, false, not, eqb, ◌⊎◌, List, length, ℤ, pos, negsuc, ◌+ℤ◌, ◌-ℤ◌, neg_ℤ, nat_abs, sym, refl, ap, ◌∙◌, inl, inr, mod-eq_of_lt, zero-add, arith, eq-eqb, eqb-true}
 use borrow.Author.Tests.{not-false}
 use lib.IntN.{+ℤ_comm, +ℤ_assoc, -ℤ-+ℤ_cancel, +ℤ-neg_ℤ_cancel}
 use Rattle.float.specs.Format.{position_of}
@@ -30,7 +30,7 @@ steps_apart x y = go (x -ℤ y) (-ℤ-+ℤ_cancel x y)
 
 pub places : Places
 places = record {
-  same = λ p. (λ h. eqb-true p.left p.right (not-false _ h), λ q. ap not (eq_eqb p.left p.right q));
+  same = λ p. (λ h. eqb-true p.left p.right (not-false _ h), λ q. ap not (eq-eqb p.left p.right q));
   apart = λ p. steps_apart (position_of 23 8 p.left) (position_of 23 8 p.right);
   how_many_lem = shared_count;
   each = shared_place;

@@ -6,10 +6,10 @@ use mathlib.Core.List.{List}
 use native.Mathlib.Nat.{le-div_iff_mul-le, div-lt_iff_lt-mul}
 use native.Mathlib.Numerals.{add-one}
 use native.Mathlib.Omega.{arith}
-use borrow.Author.Tests.{eq_eqb, ne_eqb, le-leb, lt-leb, leb-true, lt-ltb, le-ltb, ltb-true}
+use borrow.Author.Tests.{eq-eqb, ne_eqb, le-leb, lt-leb, leb-true, lt-ltb, le-ltb, ltb-true}
 use lib.Dec.{eqb, leb, ltb}
 use lib.ListN.{length, get_or, drop, drop_of_length-le}
-use lib.Seq.{drop_cons}
+use lib.Seq.{drop-cons}
 use Rattle.float.proofs.Tests.{clash}
 use Rattle.text.specs.declared.Digit.{Digit}
 use Rattle.text.specs.declared.Digit.TheVariants as digit
@@ -96,7 +96,7 @@ module _ (base : ℕ) (s : List ℕ) (i n : ℕ) where
   number_next : i < length s
       → number_from base (drop i s) n ≡ with_digit (digit_in base (get_or s i 0)) (λ d. with_word (n * base + d) (λ m. number_from base (drop (i + 1) s) m))
   unfolding number_from
-  number_next h = rw (drop_cons s i 0 h, add-one)
+  number_next h = rw (drop-cons s i 0 h, add-one)
 
   pub number_stops : i < length s → digit_in base (get_or s i 0) ≡ digit.Nothing → number_from base (drop i s) n ≡ number.Malformed
   number_stops h e = number_next h ∙ ap (λ (x : Digit). with_digit x (λ d. with_word (n * base + d) (λ m. number_from base (drop (i + 1) s) m))) e
@@ -136,7 +136,7 @@ module _ (s : List ℕ) where
 
   pub decimal_empty : length s ≡ 0 → decimal_of s ≡ number.Malformed
   unfolding decimal_of
-  decimal_empty h = rw (eq_eqb _ _ h)
+  decimal_empty h = rw (eq-eqb _ _ h)
 
   module _ (nonempty : length s ≡ 0 → ⊥) where
     decimal_tested : decimal_of s ≡ cond (zero_ahead s) number.Malformed (number_from 10 s 0)

@@ -5,19 +5,19 @@ use mathlib.Core.List.{List}
 use native.Mathlib.Nat.{le_of_eq}
 use native.Mathlib.Numerals.{add-one}
 use native.Mathlib.Omega.{arith}
-use borrow.Author.Tests.{eq_eqb, ne_eqb}
+use borrow.Author.Tests.{eq-eqb, ne_eqb}
 use lib.ListN.{length, get_or, take, drop, length-drop, drop_of_length-le}
-use lib.Seq.{drop_cons, take_all}
+use lib.Seq.{drop-cons, take_all}
 use Rattle.text.specs.Words.{place_of, before_of, after_of}
 
 module _ (b : ℕ) (s : List ℕ) (i : ℕ) (passed : place_of b s ≡ i + place_of b (drop i s)) where
   pub place_here : i < length s → get_or s i 0 ≡ b → i ≡ place_of b s
   unfolding place_of
-  place_here h e = let z : place_of b (drop i s) ≡ 0 = rw (drop_cons s i 0 h, eq_eqb _ _ e) in omega arith
+  place_here h e = let z : place_of b (drop i s) ≡ 0 = rw (drop-cons s i 0 h, eq-eqb _ _ e) in omega arith
 
   pub place_later : i < length s → (get_or s i 0 ≡ b → ⊥) → place_of b s ≡ (i + 1) + place_of b (drop (i + 1) s)
   unfolding place_of
-  place_later h e = let z : place_of b (drop i s) ≡ 1 + place_of b (drop (i + 1) s) = rw (drop_cons s i 0 h, ne_eqb _ _ e, add-one) (omega arith) in omega arith
+  place_later h e = let z : place_of b (drop i s) ≡ 1 + place_of b (drop (i + 1) s) = rw (drop-cons s i 0 h, ne_eqb _ _ e, add-one) (omega arith) in omega arith
 
   pub place_none : length s ≤ i → i ≡ place_of b s
   unfolding place_of

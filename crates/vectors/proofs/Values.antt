@@ -2,7 +2,7 @@
 use Prim.Native.Nat.{ℕ}
 use mathlib.Core.Path.{◌≡◌}
 use mathlib.Core.List.{List}
-use borrow.Author.Tests.{eq_eqb, ne_eqb}
+use borrow.Author.Tests.{eq-eqb, ne_eqb}
 use lib.ListN.{length}
 use Rattle.value.specs.declared.Kind.{Kind}
 use Rattle.value.specs.declared.KindFound.{KindFound}
@@ -21,7 +21,7 @@ module _ (k : Kind) (d : List ℕ) {n : ℕ} (q : n ≡ digits_of k) where
 
   pub digits_all : length d ≡ n → {r : Number} → r ≡ hex_of d → with_digits k d ≡ with_bits k r
   unfolding with_digits
-  digits_all h e = rw (← q, eq_eqb _ _ h, ← e)
+  digits_all h e = rw (← q, eq-eqb _ _ h, ← e)
 
 pub value_named : (s : List ℕ) {h : List ℕ} {f : KindFound} → h ≡ before_of 58 s → f ≡ kind_named h → value_in s ≡ with_kind f (after_of 58 s)
 unfolding value_in

@@ -4,7 +4,7 @@ use mathlib.Core.Bool.{not}
 use mathlib.Core.Logic.{⊎_elim}
 use native.Mathlib.Nat.{le_of_lt}
 use borrow.Author.Rules.{rules}
-use borrow.Author.Tests.{eq_eqb}
+use borrow.Author.Tests.{eq-eqb}
 use Rattle.convert.proofs.Binary.{over_up, over_down, shift_up, shift_out}
 use Rattle.convert.proofs.digits.over.Statement.{statement}
 use Rattle.convert.proofs.digits.over.Tie as tie
@@ -16,7 +16,7 @@ returns : tie.Need-returns
 returns c =
     let a = c.before.args in (
       (shift_up a.m a.g a.d c.if1.true c.before.requires.0 c.before.requires.1).1,
-      sym (ap not (eq_eqb _ _ (over_up a.m a.g a.d c.if1.true).0)),
+      sym (ap not (eq-eqb _ _ (over_up a.m a.g a.d c.if1.true).0)),
     )
 
 returns_2 : tie.Need-returns-2

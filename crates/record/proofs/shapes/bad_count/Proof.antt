@@ -1,10 +1,10 @@
 -- The two tests are those of the definition.
-use borrow.Author.Tests.{eq_eqb, ne_eqb}
+use borrow.Author.Tests.{eq-eqb, ne_eqb}
 use Rattle.record.proofs.shapes.bad_count.Statement.{statement}
 use Rattle.record.proofs.shapes.bad_count.Tie as tie
 
 returns : tie.Need-returns
-returns c = rw (eq_eqb _ _ c.if1.true)
+returns c = rw (eq-eqb _ _ c.if1.true)
 
 returns_2 : tie.Need-returns-2
 returns_2 c = rw (ne_eqb _ _ c.if1.false)
