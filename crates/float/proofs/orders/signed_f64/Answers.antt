@@ -1,0 +1,27 @@
+-- abs is below 2 ^ 63, so the negation stays in the width.
+use mathlib.Core.Path.{◌∙◌}
+use Prim.Native.Nat.{◌<◌, ◌^◌}
+use native.Mathlib.Nat.{lt_of_lt_of_le}
+use borrow.Author.Rules.{rules}
+use lib.Dec.{lit≤}
+use mir.Syntax.{w64}
+use mir.ValLaws.{to_z_pos}
+use Rattle.float.proofs.Magnitude.{abs_fits, signed_clear, signed_set}
+use Rattle.float.proofs.Machine.{neg_fits, neg_back}
+use Rattle.float.proofs.orders.signed_f64.Goals as goal
+use Rattle.float.proofs.orders.signed_f64.Goals.{After-abs_f64-x}
+
+below : (c : After-abs_f64-x) → c.abs_f64-x.result < 2 ^ 63
+below c = lt_of_lt_of_le (abs_fits 52 11 _ c.abs_f64-x.ensures (search rules)) (lit≤ tt)
+
+pub overflow_cast-x : goal.overflow_cast-x
+overflow_cast-x c = record { sfits = below c }
+
+pub overflow_sub-result : goal.overflow_sub-result
+overflow_sub-result c = neg_fits w64 _ (below ((goal.at.overflow_sub-result c).After-abs_f64-x))
+
+pub returns-then-bits-lt9223372036854775808 : goal.returns-then-bits-lt9223372036854775808
+returns-then-bits-lt9223372036854775808 c = to_z_pos w64 _ (below ((goal.at.returns-then-bits-lt9223372036854775808 c).After-abs_f64-x)) ∙ signed_clear 52 11 _ c.abs_f64-x.ensures c.if-bits-lt9223372036854775808.true
+
+pub returns-else-bits-lt9223372036854775808 : goal.returns-else-bits-lt9223372036854775808
+returns-else-bits-lt9223372036854775808 c = neg_back w64 _ (below ((goal.at.returns-else-bits-lt9223372036854775808 c).After-abs_f64-x)) ∙ signed_set 52 11 _ c.abs_f64-x.ensures c.if-bits-lt9223372036854775808.false
