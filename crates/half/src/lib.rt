@@ -1,5 +1,7 @@
 // The f32 patterns of the 1,024 f16 magnitudes with exponent field 0, by a table (docs/RULES.md: Exact conversion).
 // A constant array is built anew at each place that names it. Whoever looks up many takes the whole table once and lends it on.
+#![tactic(auto)]
+
 ghost use Rattle.std.specs.Prelude.{◌%◌};
 ghost use Rattle.half.specs.Small.{IsOver, Small};
 

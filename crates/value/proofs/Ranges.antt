@@ -2,7 +2,7 @@
 use mathlib.Core.Path.{◌≡◌, refl, sym, subst}
 use mathlib.Core.Bool.{Bool, true, false, cond}
 use mathlib.Core.List.{List, [], ◌∷◌}
-use Prim.Native.Nat.{ℕ, suc, ◌+◌, ◌-◌, ◌*◌, ◌%◌, ◌^◌, ◌≤◌, ◌<◌}
+use Prim.Native.Nat.{ℕ, zero, suc, ◌+◌, ◌-◌, ◌*◌, ◌%◌, ◌^◌, ◌≤◌, ◌<◌}
 use native.Mathlib.Nat.{pow-suc}
 use native.Mathlib.Omega.{arith}
 use lib.Dec.{T, lit<}
@@ -88,6 +88,7 @@ content_form (F16 b) = refl
 -- ---- bits
 
 pub twice_half : (k : ℕ) → 1 ≤ k → 2 * 2 ^ (k - 1) ≡ 2 ^ k
+twice_half zero h = elim h [ ]
 twice_half (suc k) h = let q : suc k - 1 ≡ k = omega arith in rw (q, pow-suc 2 k) (omega arith)
 
 twos_range : (k : ℕ) (z : ℤ) → 1 ≤ k → FitsSigned (2 ^ (k - 1)) z → bits_in (integer k z) < 2 ^ k

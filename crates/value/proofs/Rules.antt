@@ -16,7 +16,7 @@ first_of (rule m q true ∷ rest) a n p h = subst (λ k. First n k (rule m q tru
     (subst (λ k. First k q (rule m q true ∷ rest)) (refuses_same h).0 (here rest))
 first_of (rule m q false ∷ rest) a n p h = later m q rest (first_of rest a n p h)
 
-of_first : {A : Type 0} {rules : List Rule} (a : A) {n p : ℕ} → First n p rules → chain rules (gives a) ≡ refuses n p
+of_first : {A : Type 0} {n p : ℕ} {rules : List Rule} (a : A) → First n p rules → chain rules (gives a) ≡ refuses n p
 of_first a (here rest) = refl
 of_first a (later m q rest f) = of_first a f
 
@@ -64,5 +64,6 @@ by_mapped f rules a = by_same rules (f a) (chain_mapped f rules (gives a))
 -- ---- rules of a row: the place of a refusal is the index of its sample
 
 pub placed_at : {n p : ℕ} (at : ℕ) (rules : List Rule) → First n p (map (placed at) rules) → p ≡ at
+placed_at at [] x = elim x [ ]
 placed_at at (rule m q true ∷ rules) (here rest) = refl
 placed_at at (rule m q false ∷ rules) (later i j rest f) = placed_at at rules f

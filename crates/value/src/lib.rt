@@ -1,6 +1,8 @@
 // Values of eleven kinds, and what each stands for. f32 and f64 carry a float; the pattern of a NaN, which no float can tell, stands beside it.
 // f16, for which the language has no type, carries its pattern.
 // Every rule of the crates above speaks of a value's kind, its bits and its number (docs/RULES.md: The kinds), never of its parts.
+#![tactic(auto)]
+
 mod kinds;
 mod patterns;
 

@@ -1,0 +1,15 @@
+-- A NaN's pattern goes beside the one NaN there is; any other pattern is its float's own.
+use mathlib.Core.Path.{sym, ◌∙◌}
+use borrow.Author.Rules.{rules}
+use lib.Ieee.{binary32}
+use Rattle.float.specs.Format.{f32}
+use Rattle.value.proofs.FloatBits.{from_bits, made_nan, word_beside, word_none}
+use Rattle.value.proofs.patterns.f32_value.Goals as goal
+
+pub float_from_bits-result : goal.float_from_bits-result
+float_from_bits-result c = from_bits binary32 _ (search rules) (sym c.if-is_nan_f32.false ∙ c.is_nan_f32.ensures)
+
+pub returns-then-is_nan_f32 : goal.returns-then-is_nan_f32
+returns-then-is_nan_f32 c =
+    let h = sym c.if-is_nan_f32.true ∙ c.is_nan_f32.ensures in
+    cc (made_nan binary32 _ (search rules) h, word_beside f32 _ h)
