@@ -1,6 +1,6 @@
 -- What one sample, a block and a step answer and leave, by what the passes found.
 use Rattle.std.proofs.Common.{◌≡◌, ℕ, ◌+◌, ◌*◌, ◌/◌, ◌%◌, ◌^◌, ◌<◌, ◌≤◌, Bool, true, false, List, ◌++◌, map, length, get_or, drop, sym, refl, ap, ◌∙◌, subst, true≢false, zero-add, arith, le-ltb, lt-ltb, eq-eqb, ne_eqb}
-use lib.ListN.{length_map}
+use lib.ListN.{length-map}
 use lib.Seq.{sets, sets-eq}
 use Rattle.value.specs.declared.Kind.{Kind}
 use Rattle.value.specs.declared.Value.{Value}
@@ -81,7 +81,7 @@ module _ (from to : Kind) (src old : List ℕ) where
         let all = first_all (refused_to to) samples i i-is (omega (arith, count_is)) in
         let r = row_done (bits_to to) (refused_to to) (moved_bits to) (λ v. Unit {0}) (value_of from 0)
         (λ v u t. given_bits_lem (bits_to to v) t) 0 samples (λ j k. tt) all in
-        block_output (map (moved_bits to) samples) room (sym r.0) r.1 (length_map samples (moved_bits to) ∙ count_is) q
+        block_output (map (moved_bits to) samples) room (sym r.0) r.1 (length-map samples (moved_bits to) ∙ count_is) q
 
 -- the counts that the code asked for
 pub shorter : (l : ℕ) {m n v y : ℕ} → m ≡ n → v ≡ y → l / v < m → l / y < n

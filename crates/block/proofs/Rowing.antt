@@ -1,7 +1,7 @@
 -- A block that is laid out as a row: the row's conversion of each sample is the block's, so what the row call answers is the block's answer.
 use Rattle.std.proofs.Common.{◌≡◌, ℕ, suc, ◌+◌, ◌*◌, ◌/◌, ◌^◌, ◌<◌, ◌≤◌, Bool, not, List, [], ◌∷◌, map, length, get_or, drop, sym, refl, ap, ◌∙◌, subst, arith, get_or-drop, eq-eqb}
 use native.Mathlib.Nat.{suc_inj}
-use lib.ListN.{length_map, get_or_map}
+use lib.ListN.{length-map, get_or-map}
 use lib.Seq.{sets}
 use Rattle.value.specs.declared.Kind.{Kind}
 use Rattle.value.specs.declared.Value.TheVariants.{U8}
@@ -84,7 +84,7 @@ module _ (from to : Kind) (src old : List ℕ) {A B : Type 0} (conv : A → Outc
   row_gives room q {zs} z {now} w =
       let r = row_results conv xs in
       block_output from to src old (map enc r) room (answer_is q) rows.1
-      (length_map r enc ∙ results_length conv 0 xs (sym row_is ∙ sym q) ∙ many)
+      (length-map r enc ∙ results_length conv 0 xs (sym row_is ∙ sym q) ∙ many)
       (w ∙ ap (λ (l : List B). sets old 0 (bytes_for to (map enc l))) (z ∙ left_is q))
 
 -- a row in which no sample is refused
@@ -96,7 +96,7 @@ module _ (from to : Kind) (src old : List ℕ) (room : count_of from src ≤ len
   pub row_always : {now : List ℕ} → now ≡ sets old 0 (bytes_for to (map enc (map f xs))) → BlockAnswers from to src old (gives done) now
   row_always q =
       let ys = map f xs in
-      let same : length xs ≡ length ys = sym (length_map xs f) in
+      let same : length xs ≡ length ys = sym (length-map xs f) in
       let w = always_done conv xs ys f P e good same all ys refl in
       row_gives from to src old conv enc xs ys e many same agree room w.0 w.1 q
 
@@ -114,12 +114,12 @@ pub agree_by : (from to : Kind) {A D : Type 0} (conv : A → Outcome D) (enc : D
 agree_by from to conv enc made alike src bytes row q =
     let n = count_of from src in
     let ns = numbers_in (bytes_of from) n src in
-    let many : length row ≡ n = ap length q ∙ length_map ns made ∙ length_numbers (bytes_of from) n src in (
+    let many : length row ≡ n = ap length q ∙ length-map ns made ∙ length_numbers (bytes_of from) n src in (
       many,
       λ i h. let l : i < n = rw (← many) h in
           ap (bits_to to) (sample_here from n src i (U8 0) l ∙ ap (value_of from) (sym (number_here (bytes_of from) n src i 0 l)))
           ∙ alike (get_or ns i 0) (numbers_small (bytes_of from) n src bytes i l)
-          ∙ ap (λ x. mapped enc (conv x)) (sym (ap (λ r. get_or r i (made 0)) q ∙ get_or_map made ns i 0)),
+          ∙ ap (λ x. mapped enc (conv x)) (sym (ap (λ r. get_or r i (made 0)) q ∙ get_or-map made ns i 0)),
     )
 
 -- the same block by other names of its kinds

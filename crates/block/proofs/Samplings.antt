@@ -1,6 +1,6 @@
 -- The bytes that samples make.
 use Rattle.std.proofs.Common.{◌≡◌, ℕ, zero, suc, ◌+◌, ◌*◌, ◌/◌, ◌<◌, ◌≤◌, List, [], ◌∷◌, ◌++◌, map, length, get_or, take, drop, sym, refl, ap, ◌∙◌, append_assoc, append-nil, suc-mul, add_comm, le-div_iff_mul-le, zero-mul, add-one, arith, length-append, length-take-le, take_all, drop-cons, take-add}
-use lib.ListN.{length_map}
+use lib.ListN.{length-map}
 use lib.Seq.{sets, length-sets}
 use Rattle.value.specs.declared.Kind.{Kind}
 use Rattle.value.specs.Kinds.{bytes_of}
@@ -76,7 +76,7 @@ module _ {A : Type 0} (k : Kind) (f : A → ℕ) (s : List A) (old : List ℕ) (
       let filled = bytes_for k (take i (map f s)) in
       let piece = bytes_for k (map f (take j (drop i s))) in
       let size : length filled ≡ i * bytes_of k =
-      length_bytes k (take i (map f s)) ∙ ap (λ (m : ℕ). m * bytes_of k) (length-take-le i (map f s) (rw (length_map s f) h)) in
+      length_bytes k (take i (map f s)) ∙ ap (λ (m : ℕ). m * bytes_of k) (length-take-le i (map f s) (rw (length-map s f) h)) in
       let here : place ≡ from + length filled = p ∙ ap (λ (m : ℕ). from + m) (sym size) in
       let whole : filled ++ piece ≡ bytes_for k (take (i + j) (map f s)) =
       sym (ap (bytes_for k) (take-add i j (map f s))
@@ -99,7 +99,7 @@ module _ {A : Type 0} (k : Kind) (f : A → ℕ) (s : List A) (old : List ℕ) (
       fill_piece i 1 (omega arith) now place p g (e ∙ ap (sets now place) laid)
 
   pub fill_end : (now : List ℕ) (i : ℕ) → length s ≤ i → Filled now i → now ≡ sets old from (bytes_for k (map f s))
-  fill_end now i h g = g.1 ∙ ap (λ (l : List ℕ). sets old from (bytes_for k l)) (take_all i (map f s) (rw (length_map s f) h))
+  fill_end now i h g = g.1 ∙ ap (λ (l : List ℕ). sets old from (bytes_for k l)) (take_all i (map f s) (rw (length-map s f) h))
 
   -- two pieces that are all of it
   pub fill_two : (i j : ℕ) → i + j ≡ length s → {a b : List A} → a ≡ take i s → b ≡ take j (drop i s) → (place : ℕ) → place ≡ from + i * bytes_of k

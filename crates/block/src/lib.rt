@@ -14,7 +14,7 @@ pub use steps::convert_block;
 pub const ROW_PLACES: usize = 32768;
 
 // How many samples came before, and what they were answered; before the first, none and Done.
-#[derive(Drop)]
+#[derive(Clone, Copy)]
 pub struct Progress {
     pub samples: usize,
     pub answer: Rowed,

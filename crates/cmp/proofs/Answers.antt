@@ -4,37 +4,35 @@ use mathlib.Core.Bool.{Bool, true, false}
 use Prim.Native.Nat.{ℕ}
 use lib.Dec.{T}
 use lib.IntN.{ℤ}
-use types.Run.{OneOf}
-use denote.Enum.Declared.{tag_of}
 use Rattle.float.specs.declared.Order.{Order}
 use Rattle.float.specs.Format.{Format}
 use Rattle.float.specs.Order.{order_z, order_of, answer, compare_in, pattern_in}
 use Rattle.float.specs.Number.{times}
 use Rattle.value.specs.declared.Kind.{Kind}
+use Rattle.value.specs.declared.Kind.TheVariants as kind
 use Rattle.value.specs.declared.Value.{Value}
-use Rattle.value.specs.Kinds.{kind_of, all_kinds, form_of, is_integer}
+use Rattle.value.specs.Kinds.{kind_of, form_of, is_integer}
 use Rattle.value.specs.Meaning.{whole_of, number_of, position_of, exact_of, unit, step_of}
 use Rattle.value.specs.Outcome.{gives, refuses, refuse_if, refusal_of, mapped}
-use Rattle.value.specs.contracts.Value.{the_type}
 use Rattle.value.proofs.Forms.{Whole}
 use Rattle.value.proofs.KindNumbers.{number_injective}
 use Rattle.value.specs.declared.Refusal.{Refusal}
 use Rattle.cmp.specs.declared.Compared.{Compared}
 use Rattle.cmp.specs.declared.Compared.TheVariants as compared
 use Rattle.cmp.specs.Compare.{kinds_differ, compare_of, total_of, compared_outcome}
-use Rattle.cmp.proofs.KindTests.{keys_in, by_keys, other_than, differ, alike, one_kind}
+use Rattle.cmp.proofs.KindTests.{NotOf, whole_left, differ, alike, one_kind}
 use Rattle.cmp.proofs.Numbers.{integers_order, patterns_order, positions_order}
 
 -- ---- the arm `_`: b is of another kind
 
-module _ {a a' : Value} (b : Value) (q : a ≡ a') (o : OneOf (keys_in (other_than (kind_of a')) all_kinds) (tag_of the_type b)) where
+module _ {a a' : Value} (b : Value) (q : a ≡ a') (n : NotOf (kind_of a') b) where
   pub compare_refused : refuses 7 0 ≡ compare_of a b
   unfolding compare_of
-  compare_refused = simp (differ b q o)
+  compare_refused = simp (differ b q n)
 
   pub total_refused : refuses 7 0 ≡ total_of a b
   unfolding total_of
-  total_refused = simp (differ b q o)
+  total_refused = simp (differ b q n)
 
 -- ---- an arm that knows both cases
 
@@ -74,8 +72,8 @@ pub integers_agree : (a b : Value) → Whole a → compare_of a b ≡ total_of a
 unfolding compare_of total_of
 integers_agree a b h = same_answer a b (kinds_differ a b) refl h
 
-pub total_integers : (a b : Value) → OneOf (keys_in (λ k. is_integer (form_of k)) all_kinds) (tag_of the_type a) → compare_of a b ≡ total_of a b
-total_integers a b o = integers_agree a b (by_keys (λ k. is_integer (form_of k)) a o)
+pub total_integers : (a b : Value) → NotOf kind.F32 a → NotOf kind.F64 a → NotOf kind.F16 a → compare_of a b ≡ total_of a b
+total_integers a b f g h = integers_agree a b (whole_left a f g h)
 
 -- ---- a test of what was compared
 

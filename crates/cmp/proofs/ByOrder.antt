@@ -2,7 +2,7 @@
 use mathlib.Core.Path.{◌≡◌, sym, ap}
 use mathlib.Core.Bool.{true, not, ◌||◌}
 use Prim.Native.Nat.{ℕ}
-use borrow.Author.Tests.{not_true}
+use borrow.Author.Tests.{not-true}
 use Rattle.float.specs.declared.Order.{Order}
 use Rattle.float.specs.declared.Order.TheVariants.{Greater, Unordered}
 use Rattle.float.specs.Order.{is_greater, is_unordered}
@@ -21,4 +21,4 @@ module _ {A : Type 0} (place : ℕ) (one other : A) (o : Order) where
 
   pub chosen_other : not (is_greater o || is_unordered o) ≡ true → gives one ≡ chosen_by place one other o
   unfolding chosen_by
-  chosen_other h = let n = neither (is_greater o) (is_unordered o) (not_true _ h) in simp (n.0, n.1)
+  chosen_other h = let n = neither (is_greater o) (is_unordered o) (not-true _ h) in simp (n.0, n.1)

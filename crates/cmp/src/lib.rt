@@ -1,6 +1,8 @@
 // Comparison of two values, the six tests of it, the total order.
 // Values of different kinds are refused with 7, place 0. Two values of one kind compare as the numbers that they stand for
 // (docs/RULES.md: Comparison, Total order).
+#![tactic(auto)]
+
 mod comparison;
 mod tests;
 mod total;
@@ -12,14 +14,14 @@ pub use total::total_order;
 use value::Refusal;
 
 // What comparing answers.
-#[derive(Drop)]
+#[derive(Clone, Copy)]
 pub enum Compared {
     Is(Order),
     Refused(Refusal),
 }
 
 // What a test answers.
-#[derive(Drop)]
+#[derive(Clone, Copy)]
 pub enum Tested {
     Is(bool),
     Refused(Refusal),

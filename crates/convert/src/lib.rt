@@ -1,6 +1,8 @@
 // Exact conversion between the kinds: a number arrives unchanged, or is refused with the reason (docs/RULES.md: Exact conversion).
 // The source is taken apart into its number, the target puts it together: eleven arms and eleven arms serve 121 pairs. One pair has a way of its own:
 // f16 to f32 goes through the table of `half` where the exponent field is 0.
+#![tactic(auto)]
+
 mod digits;
 mod halves;
 mod sources;
@@ -15,14 +17,14 @@ use targets::put;
 use value::{Kind, Refusal, Value};
 
 // What conversion answers.
-#[derive(Drop)]
+#[derive(Clone, Copy)]
 pub enum Converted {
     To(Value),
     Refused(Refusal),
 }
 
 // What a value stands for: no number, an infinity with its sign, or a sign and m * 2^g in units of 2^-1074.
-#[derive(Drop)]
+#[derive(Clone, Copy)]
 pub enum Parts {
     NotANumber,
     Infinite(bool),
@@ -30,14 +32,14 @@ pub enum Parts {
 }
 
 // A sign and a number that the target has, or the number of the rule that refused.
-#[derive(Drop)]
+#[derive(Clone, Copy)]
 pub enum Fitted {
     Is(bool, u64),
     Refused(u8),
 }
 
 // The quotient of a division, and whether something is left.
-#[derive(Drop)]
+#[derive(Clone, Copy)]
 pub struct Ratio {
     pub quotient: u64,
     pub rest: bool,

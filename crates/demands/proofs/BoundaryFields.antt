@@ -7,7 +7,7 @@ use mathlib.Core.Path.{◌≡◌, refl, sym, ap, ◌∙◌, subst}
 use mathlib.Core.Bool.{Bool, true, false, cond}
 use mathlib.Core.List.{List, [], ◌∷◌, map}
 use borrow.Author.Tests.{leb-false, lt-leb}
-use lib.ListN.{length, take, length_map}
+use lib.ListN.{length, take, length-map}
 use Rattle.float.specs.Number.{is_none}
 use Rattle.float.proofs.Tests.{neither, clash}
 use Rattle.value.specs.declared.Kind.{Kind}
@@ -45,7 +45,7 @@ padded_front {A} d (suc n) (x ∷ xs) h = ap (λ (l : List A). x ∷ l) (padded_
 
 pub fields_in : (ss : List Sample) → length ss ≤ 12 → fields_of (record_for ss) ≡ map field_in ss
 fields_in ss h =
-    let same : length (map field_in ss) ≡ length ss = length_map ss field_in in
+    let same : length (map field_in ss) ≡ length ss = length-map ss field_in in
     ap (λ (n : ℕ). take n (padded 12 (field_for (U8 0)) (map field_in ss))) (sym same)
     ∙ padded_front (field_for (U8 0)) 12 (map field_in ss) (omega (arith, same))
 
@@ -55,7 +55,7 @@ kinds_placed (n ∷ ns) = ap (λ (ks : List Kind). kind_for n ∷ ks) (kinds_pla
 
 pub kinds_in_lem : (ns : List ℕ) → length ns ≤ 12 → kinds_in (shape_for ns) ≡ map kind_for ns
 kinds_in_lem ns h =
-    let same : length (map place_in ns) ≡ length ns = length_map ns place_in in
+    let same : length (map place_in ns) ≡ length ns = length-map ns place_in in
     ap (λ (n : ℕ). map (λ (p : Place). p.kind) (take n (padded 12 (place_for kind.U8) (map place_in ns)))) (sym same)
     ∙ ap (map (λ (p : Place). p.kind)) (padded_front (place_for kind.U8) 12 (map place_in ns) (omega (arith, same)))
     ∙ kinds_placed ns

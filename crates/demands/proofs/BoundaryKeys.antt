@@ -7,7 +7,7 @@ use mathlib.Core.Bool.{true, false, not}
 use mathlib.Core.List.{List, [], ◌∷◌, ◌++◌, map}
 use borrow.Author.Tests.{eq-eqb, le-ltb, eqb-true, ltb-false, not-false}
 use lib.Dec.{eqb, ltb}
-use lib.ListN.{length, drop, length_map}
+use lib.ListN.{length, drop, length-map}
 use lib.Ieee.{to_bits, of_bits, of_fields, odd, size, span, climb, is_nan}
 use Rattle.float.specs.Format.{abs_of, mag_of}
 use Rattle.float.specs.Order.{pattern_of}
@@ -164,7 +164,7 @@ module _ (ns bs row : List ℕ) (w : Writable ns bs) (even : length ns ≡ lengt
   row_read : read_exit ns (key_for ns bs) row ≡ plus_zeros ns bs
   row_read =
       row_holds ns (key_for ns bs) row (normal_record (record_for (paired_samples ns bs))) key_read
-      (ap length bits_read ∙ length_map (paired_samples ns bs) plus_zero_bits ∙ same_length ns bs w ∙ even)
+      (ap length bits_read ∙ length-map (paired_samples ns bs) plus_zero_bits ∙ same_length ns bs w ∙ even)
       ∙ bits_read
 
 -- what a call that is done has given

@@ -7,7 +7,7 @@ use Prim.Native.Nat.{ℕ, zero, suc, ◌-◌, ◌≤◌, ◌<◌}
 use native.Mathlib.Omega.{arith}
 use borrow.Author.Tests.{eq-eqb, ne_eqb, le-ltb, eqb-true, eqb-false, ltb-false, not-false}
 use lib.Dec.{eqb, ltb}
-use lib.ListN.{length, take, drop, get_or, replicate, length-append, length-replicate, length_map}
+use lib.ListN.{length, take, drop, get_or, replicate, length-append, length-replicate, length-map}
 use lib.Seq.{take_at, length-take-le}
 use Rattle.float.specs.declared.Order.TheVariants.{Equal}
 use Rattle.float.specs.Order.{order_n}
@@ -49,7 +49,7 @@ count_good n h =
     (positive n (eqb-false n 0 b.0), ltb-false 12 n b.1)
 
 shape_length : (s : Shape) → Usable s → length (kinds_in s) ≡ s.count
-shape_length s u = length_map (take s.count s.places) (λ (p : Place). p.kind) ∙ length-take-le s.count s.places (omega (arith, u.few, u.places))
+shape_length s u = length-map (take s.count s.places) (λ (p : Place). p.kind) ∙ length-take-le s.count s.places (omega (arith, u.few, u.places))
 
 pub record_count : (s : Shape) (r : Record) → Usable s → OfShape s r → bad_count r.count ≡ false
 record_count s r u h = ap bad_count h.count_is ∙ good_count s.count u.some u.few
@@ -139,7 +139,7 @@ made_places fs h = length-append fs (replicate (12 - length fs) (field_for (U8 0
 made_of_shape : (s : Shape) (key : List ℕ) (fs : List Field) → Usable s → FieldsFor (kinds_in s) key fs
     → OfShape s (record_of fs) × (record_key (record_of fs) ≡ key)
 made_of_shape s key fs u w =
-    let n : length fs ≡ s.count = sym (length_map fs (λ (f : Field). kind_of f.value)) ∙ ap length w.kinds_are ∙ shape_length s u in (
+    let n : length fs ≡ s.count = sym (length-map fs (λ (f : Field). kind_of f.value)) ∙ ap length w.kinds_are ∙ shape_length s u in (
       record {
         places = made_places fs (omega (arith, u.few));
         count_is = n;

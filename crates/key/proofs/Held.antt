@@ -6,7 +6,7 @@ use mathlib.Core.Logic.{◌↔◌}
 use mathlib.Core.Bool.{false}
 use mathlib.Core.List.{List, [], ◌∷◌, ◌++◌, map}
 use native.Mathlib.Omega.{arith}
-use lib.ListN.{length, take, replicate, length-append, length_map, length-replicate}
+use lib.ListN.{length, take, replicate, length-append, length-map, length-replicate}
 use lib.Seq.{take_at, length-take-le, get_or-take}
 use Rattle.float.specs.Number.{is_none}
 use Rattle.value.specs.declared.Kind.{Kind}
@@ -57,13 +57,13 @@ kinds_placed (k ∷ ks) = ap (λ (js : List Kind). k ∷ js) (kinds_placed ks)
 
 made_kinds : (ks : List Kind) → kinds_in (shape_for ks) ≡ ks
 made_kinds ks =
-    ap (map (λ (p : Place). p.kind)) (take_at (map place_for ks) (replicate (12 - length ks) (place_for kind.U8)) (length ks) (length_map ks place_for))
+    ap (map (λ (p : Place). p.kind)) (take_at (map place_for ks) (replicate (12 - length ks) (place_for kind.U8)) (length ks) (length-map ks place_for))
     ∙ kinds_placed ks
 
 shape_places : (ks : List Kind) → length ks ≤ 12 → length (shape_for ks).places ≡ 12
 shape_places ks h =
     length-append (map place_for ks) (replicate (12 - length ks) (place_for kind.U8))
-    ∙ rw (length_map ks place_for, length-replicate (12 - length ks) (place_for kind.U8)) (omega arith)
+    ∙ rw (length-map ks place_for, length-replicate (12 - length ks) (place_for kind.U8)) (omega arith)
 
 -- the shape of a record is made of its kinds
 shape_given : (r : Record) → bad_count r.count ≡ false → shape_of r ≡ gives (shape_for (kinds_of (fields_of r)))
@@ -85,7 +85,7 @@ twelve_held r held = ((record_held r).0 held).0
 -- as many kinds as the count says
 kinds_count : (r : Record) → length r.fields ≡ 12 → bad_count r.count ≡ false → length (kinds_of (fields_of r)) ≡ r.count
 kinds_count r twelve good =
-    length_map (fields_of r) (λ (f : Field). kind_of f.value) ∙ length-take-le r.count r.fields (omega (arith, good_count r.count good))
+    length-map (fields_of r) (λ (f : Field). kind_of f.value) ∙ length-take-le r.count r.fields (omega (arith, good_count r.count good))
 
 keyed_take : (n : ℕ) (fs : List Field) → ((at : ℕ) → InRange (value_at fs at))
     → ((at : ℕ) → at < n → is_none (exact_of (value_at fs at)) ≡ false) → AllKeyed (take n fs)

@@ -8,7 +8,7 @@ use native.Mathlib.Numerals.{add-one}
 use native.Mathlib.Omega.{arith}
 use borrow.Author.Tests.{eq-eqb, ne_eqb}
 use lib.Dec.{eqb}
-use lib.ListN.{length, take, drop, get_or, set, replicate, length_map, length-set, take-append-drop, drop_of_length-le, get_or_map}
+use lib.ListN.{length, take, drop, get_or, set, replicate, length-map, length-set, take-append-drop, drop_of_length-le, get_or-map}
 use lib.Seq.{take-suc, take_all, drop-cons, drop-drop, drop-set-lt, take-suc-set, get_or-take, length-take-le}
 use Rattle.float.proofs.Tests.{clash}
 use Rattle.value.proofs.Outcomes.{refuse_passes, mapped_gives}
@@ -109,13 +109,13 @@ module _ (s : Shape) (few : s.count ≤ 12) (twelve : length s.places ≡ 12) wh
   ks = kinds_in s
 
   count_kinds : length ks ≡ s.count
-  count_kinds = length_map (take s.count s.places) _ ∙ length-take-le s.count s.places (omega arith)
+  count_kinds = length-map (take s.count s.places) _ ∙ length-take-le s.count s.places (omega arith)
 
   -- the kind at a place that counts
   module _ (at : ℕ) (d : Place) (h : at < s.count) where
     kind_here : get_or ks at d.kind ≡ (get_or s.places at d).kind
     kind_here =
-        get_or_map (λ (p : Place). p.kind) (take s.count s.places) at d
+        get_or-map (λ (p : Place). p.kind) (take s.count s.places) at d
         ∙ ap (λ (p : Place). p.kind) (get_or-take s.count s.places at d h)
 
     kinds_left : drop at ks ≡ (get_or s.places at d).kind ∷ drop (suc at) ks

@@ -8,7 +8,7 @@ use native.Mathlib.Numerals.{add-one}
 use native.Mathlib.Omega.{arith}
 use borrow.Author.Tests.{lt-ltb, le-ltb}
 use lib.Dec.{ltb}
-use lib.ListN.{length, take, drop, get_or, length-append, length_map, take-append-drop, drop_of_length-le}
+use lib.ListN.{length, take, drop, get_or, length-append, length-map, take-append-drop, drop_of_length-le}
 use lib.Seq.{take-suc, take_all, drop-cons, get_or-take, length-take-le}
 use Rattle.float.specs.Number.{is_none}
 use Rattle.value.specs.declared.Kind.{Kind}
@@ -32,7 +32,7 @@ use Rattle.key.proofs.NumberBytes.{length_put, put_nil, put_put}
 -- ---- the fields that count
 
 pub twelve_fields : (r : Record) → length ((record-type.the_type).to r).0 ≡ 12 → length r.fields ≡ 12
-twelve_fields r h = simp length_map at h
+twelve_fields r h = simp length-map at h
 
 -- ---- the keys of the first fields
 

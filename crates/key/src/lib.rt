@@ -8,14 +8,14 @@ use value::Refusal;
 pub use writing::write;
 
 // What writing a key answers: its length.
-#[derive(Drop)]
+#[derive(Clone, Copy)]
 pub enum Written {
     Length(usize),
     Refused(Refusal),
 }
 
 // How a kind's bits are turned into a key and back: the weight of the sign bit, and of a float the bits of plus infinity.
-#[derive(Drop)]
+#[derive(Clone, Copy)]
 enum Weights {
     Unsigned,
     Signed(u64),

@@ -12,13 +12,13 @@ use record::Record;
 use value::Refusal;
 
 // How two records of one shape compare, and the index of the field that decides.
-#[derive(Drop)]
+#[derive(Clone, Copy)]
 pub(crate) struct Decision {
     pub order: Order,
     pub at: usize,
 }
 
-#[derive(Drop)]
+#[derive(Clone, Copy)]
 pub(crate) enum Decided {
     Is(Decision),
     Refused(Refusal),

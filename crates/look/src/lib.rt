@@ -8,7 +8,7 @@ use row::Rowed;
 use value::Value;
 
 // A sample, if there is one.
-#[derive(Drop)]
+#[derive(Clone, Copy)]
 pub enum Found {
     Is(Value),
     Nothing,
@@ -16,7 +16,7 @@ pub enum Found {
 
 // What was seen of samples: how many there were, how many of them are NaN, infinities and minus zeros, the lowest and the highest, how many
 // a conversion would refuse, and what it would answer; before the first, none, Nothing and Done.
-#[derive(Drop)]
+#[derive(Clone, Copy)]
 pub struct Seen {
     pub samples: usize,
     pub nans: usize,

@@ -16,7 +16,7 @@ use text::{kind_named, word_number};
 use value::KindFound;
 
 // What was asked for beside the words, and the place of the first word. `into` is for a caller that makes, names and removes OUT itself.
-#[derive(Drop)]
+#[derive(Clone, Copy)]
 pub(crate) struct Options {
     pub first: usize,
     pub raw: bool,

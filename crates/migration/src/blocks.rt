@@ -24,7 +24,7 @@ const BUFFER_BYTES: usize = 262144;
 pub(crate) type Buffer = [u8; BUFFER_BYTES];
 
 // What stopped a run before its end: nothing, or a read or a write, with the system's number.
-#[derive(Drop)]
+#[derive(Clone, Copy)]
 pub enum Fault {
     Nothing,
     Reading(i32),
@@ -32,7 +32,7 @@ pub enum Fault {
 }
 
 // Where a run stands; `sample` is the one that was refused, if one was, and `turns` how many blocks may still be read, 0 once the input has ended.
-#[derive(Drop)]
+#[derive(Clone, Copy)]
 pub struct State {
     pub progress: Progress,
     pub sample: Found,

@@ -14,7 +14,7 @@ use row::Rowed;
 use value::Kind;
 
 // Where a look stands; `turns` is how many blocks may still be read, 0 once the input has ended.
-#[derive(Drop)]
+#[derive(Clone, Copy)]
 pub struct Look {
     pub seen: Seen,
     pub fault: Fault,

@@ -2,7 +2,7 @@
 use value::{Value, bits_of};
 
 // Whether lines are wanted, the bytes of the file, 0 where they aren't known, and the second of the last line.
-#[derive(Drop)]
+#[derive(Clone, Copy)]
 pub struct Watch {
     pub wanted: bool,
     pub bytes: u64,

@@ -5,7 +5,7 @@ use mathlib.Core.Path.{◌≡◌, refl, ◌∙◌}
 use mathlib.Core.Logic.{◌↔◌}
 use mathlib.Core.List.{List, [], ◌∷◌, map}
 use native.Mathlib.Omega.{arith}
-use lib.ListN.{length, get_or, length_map}
+use lib.ListN.{length, get_or, length-map}
 use mir.Val.{Val}
 use denote.RattleType.{RattleType}
 use denote.Shadow.{shadow}
@@ -85,7 +85,7 @@ record_held r =
           (twelve r own.0.1.0.1, each_range r.fields _ own.0.1.1, own.1.0.1)),
       λ good.
           let fields = each_stands row into none r.fields (λ at. field_stands (get_or r.fields at none) (good.1 at)) in
-          (_, ((_, (_, tt)), (refl, ((fields.0, ((refl, length_map r.fields into ∙ good.0), fields.1)), ((refl, good.2), tt))))),
+          (_, ((_, (_, tt)), (refl, ((fields.0, ((refl, length-map r.fields into ∙ good.0), fields.1)), ((refl, good.2), tt))))),
     )
 
 pub shape_held : (s : Shape) → ((vs : List Val) × Is shape-type.the_row s vs) ↔ ((length s.places ≡ 12) × (s.count < 2 ^ 64))
@@ -95,5 +95,5 @@ shape_held s =
       (λ held. let own = held.1.1.1 in (twelve_places s own.0.1.0.1, own.1.0.1)),
       λ good.
           let places = each_stands (place-type.the_field).row into none s.places (λ at. place_stands (get_or s.places at none)) in
-          (_, ((_, (_, tt)), (refl, ((places.0, ((refl, length_map s.places into ∙ good.0), places.1)), ((refl, good.1), tt))))),
+          (_, ((_, (_, tt)), (refl, ((places.0, ((refl, length-map s.places into ∙ good.0), places.1)), ((refl, good.1), tt))))),
     )

@@ -4,7 +4,7 @@ use mathlib.Core.Path.{◌≡◌, sym, ◌∙◌}
 use mathlib.Core.List.{List, [], ◌∷◌, ◌++◌, map, map-append}
 use native.Mathlib.Omega.{arith}
 use native.Mathlib.Numerals.{add-one}
-use lib.ListN.{length, length_map, take, set, replicate}
+use lib.ListN.{length, length-map, take, set, replicate}
 use lib.Seq.{take-suc, append_snoc, set_at, length-take-le}
 use Rattle.value.specs.declared.Kind.{Kind}
 use Rattle.value.specs.declared.Kind.TheVariants as kind
@@ -21,7 +21,7 @@ abbrev pub places_from : ℕ → List Kind → List Place
 places_from at ks = map place_for ks ++ replicate (12 - at) (place_for kind.U8)
 
 places_so_far : (l : List Field) (at : ℕ) → at ≤ length l → length (map place_for (kinds_of (take at l))) ≡ at
-places_so_far l at h = simp length_map (length-take-le at l h)
+places_so_far l at h = simp length-map (length-take-le at l h)
 
 pub one_more : (r : Record) (at : ℕ) {k : Kind} → Twelve r → at < 12 → k ≡ kind_of (value_at r.fields at)
     → set (places_from at (kinds_of (take at r.fields))) at (place_for k) ≡ places_from (at + 1) (kinds_of (take (at + 1) r.fields))
@@ -40,5 +40,5 @@ pub filled : (r : Record) (at : ℕ) (ps : List Place) → Twelve r → r.count 
     → ◌≡◌ {A = Shape} (record { places = ps; count = r.count }) (shape_for (kinds_of (fields_of r)))
 filled r at ps t h e q =
     let l = twelve r t in
-    let n : length (kinds_of (fields_of r)) ≡ r.count = simp length_map (length-take-le r.count r.fields (omega arith)) in
+    let n : length (kinds_of (fields_of r)) ≡ r.count = simp length-map (length-take-le r.count r.fields (omega arith)) in
     rw (q, n, e)

@@ -4,7 +4,7 @@ use mathlib.Core.Path.{◌≡◌, sym, ◌∙◌}
 use mathlib.Core.Bool.{Bool, false}
 use native.Mathlib.Omega.{arith}
 use lib.Dec.{eqb, ltb}
-use lib.ListN.{length, length_map}
+use lib.ListN.{length, length-map}
 use borrow.Author.Tests.{ltb-false}
 use Rattle.float.proofs.Tests.{neither}
 use Rattle.record.specs.declared.Record.{Record}
@@ -18,11 +18,11 @@ abbrev pub Twelve : Record → Type 0
 Twelve r = length ((record-type.the_type).to r).0 ≡ 12
 
 pub twelve : (r : Record) → Twelve r → length r.fields ≡ 12
-twelve r h = simp length_map at h
+twelve r h = simp length-map at h
 
 -- and owning a shape, of its places
 pub twelve_places : (s : Shape) → length ((shape-type.the_type).to s).0 ≡ 12 → length s.places ≡ 12
-twelve_places s h = simp length_map at h
+twelve_places s h = simp length-map at h
 
 pub is_inside : {t : Bool} (at : ℕ) → t ≡ ltb 11 at → t ≡ false → at < 12
 is_inside at q h = omega (arith, ltb-false 11 at (sym q ∙ h))

@@ -1,5 +1,7 @@
 // Records of up to twelve fields, each of its own kind: made, read, and their shape. Two are compared by the crate lexical.
 // A record is a count and twelve places; places past the count are never looked at (docs/RULES.md: Records).
+#![tactic(auto)]
+
 mod makings;
 mod shapes;
 
@@ -8,53 +10,53 @@ pub use shapes::{bad_count, blank_shape, shape_of};
 use value::{Kind, Refusal, Value};
 
 // One place of a record.
-#[derive(Drop)]
+#[derive(Clone, Copy)]
 pub struct Field {
     pub value: Value,
 }
 
-#[derive(Drop)]
+#[derive(Clone, Copy)]
 pub struct Record {
     pub fields: [Field; 12],
     pub count: usize,
 }
 
 // One place of a shape.
-#[derive(Drop)]
+#[derive(Clone, Copy)]
 pub struct Place {
     pub kind: Kind,
 }
 
 // The kinds of a record's fields; places past the count are never looked at.
-#[derive(Drop)]
+#[derive(Clone, Copy)]
 pub struct Shape {
     pub places: [Place; 12],
     pub count: usize,
 }
 
 // Whether a call that answers with a record did so.
-#[derive(Drop)]
+#[derive(Clone, Copy)]
 pub enum Made {
     Done,
     Refused(Refusal),
 }
 
 // A record beside the outcome; after a refusal it is blank: count 0, and u8 0 in every place.
-#[derive(Drop)]
+#[derive(Clone, Copy)]
 pub struct Recorded {
     pub outcome: Made,
     pub record: Record,
 }
 
 // A shape beside the outcome; after a refusal it is blank: count 0, and u8 in every place.
-#[derive(Drop)]
+#[derive(Clone, Copy)]
 pub struct Shaped {
     pub outcome: Made,
     pub shape: Shape,
 }
 
 // What reading a place answers.
-#[derive(Drop)]
+#[derive(Clone, Copy)]
 pub enum Held {
     Is(Value),
     Refused(Refusal),

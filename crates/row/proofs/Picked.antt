@@ -5,7 +5,7 @@ use mathlib.Core.Bool.{Bool, true, false, not, ◌&&◌, true≢false, and-false
 use mathlib.Core.List.{List, [], ◌∷◌, ◌++◌, append_assoc, append-nil}
 use Prim.Native.Nat.{ℕ, ◌<◌}
 use native.Mathlib.Omega.{arith}
-use borrow.Author.Tests.{not_true}
+use borrow.Author.Tests.{not-true}
 use lib.ListN.{length, get_or, length-append, get_or-append}
 use lib.Seq.{get_or-append_seam}
 use Rattle.float.proofs.Tests.{neither}
@@ -45,7 +45,7 @@ strict_of skip less irreflexive transitive = record {
   transitive = λ u v a h k.
       let both = (and-eq-true_iff (not (skip u)) (less u v)).0 h in
       rw both.0 (transitive u v a both.1 ((and-eq-true_iff (not (skip v)) (less v a)).0 k).1);
-  kept = λ v a h. not_true (skip v) ((and-eq-true_iff (not (skip v)) (less v a)).0 h).0;
+  kept = λ v a h. not-true (skip v) ((and-eq-true_iff (not (skip v)) (less v a)).0 h).0;
 }
 
 -- nothing: all are skipped

@@ -5,7 +5,7 @@ use mathlib.Core.List.{List, [], ◌∷◌, map}
 use Prim.Native.Nat.{ℕ, suc, ◌+◌, ◌≤◌, ◌<◌}
 use native.Mathlib.Nat.{not-suc-le-zero, zero-add}
 use native.Mathlib.Omega.{arith}
-use lib.ListN.{length, get_or, length_map}
+use lib.ListN.{length, get_or, length-map}
 use Rattle.value.specs.Outcome.{Outcome, gives, refuses, refuse_if, Success, done, lent_after}
 use Rattle.value.proofs.Outcomes.{refused_unchanged, given_fills}
 use Rattle.float.proofs.Tests.{clash}
@@ -83,7 +83,7 @@ module _ {A B : Type 0} (conv : A → Outcome B) (test : A → Bool) (f : A → 
     all_done same now l q =
         let r = row_done 0 s all (first_all test s at at-is l) in
         let o : ruled_answer conv s rule n ≡ gives done = passed ∙ r.0 in
-        let fills : length (row_results conv s) ≡ length old = ap length r.1 ∙ length_map s f ∙ same in
+        let fills : length (row_results conv s) ≡ length old = ap length r.1 ∙ length-map s f ∙ same in
         (sym o, q ∙ sym r.1 ∙ sym (given_fills (λ (d : Success). row_results conv s) old o fills))
 
 -- a row in which no sample is refused has as many results

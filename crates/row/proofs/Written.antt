@@ -5,7 +5,7 @@ use Prim.Native.Nat.{ℕ, zero, suc, ◌+◌, ◌≤◌, ◌<◌}
 use native.Mathlib.Nat.{le_of_suc-le-suc, not-suc-le-zero}
 use native.Mathlib.Numerals.{add-one}
 use native.Mathlib.Omega.{arith}
-use lib.ListN.{length, get_or, take, drop, set, length-set, length_map, drop_of_length-le}
+use lib.ListN.{length, get_or, take, drop, set, length-set, length-map, drop_of_length-le}
 use lib.Seq.{take_all}
 
 -- the first i samples are r's, the others still t's
@@ -39,7 +39,7 @@ module _ {A B : Type 0} (f : A → B) where
   write_step s t now i d v h n w e = (
     omega arith,
     ap (λ l. set l i v) w.1
-        ∙ store (map f s) t i v (rw (length_map s f) h) (omega arith) (mapped_at f s i d v h ∙ sym e)
+        ∙ store (map f s) t i v (rw (length-map s f) h) (omega arith) (mapped_at f s i d v h ∙ sym e)
         ∙ rw add-one refl,
     length-set now i v ∙ w.2,
   )
@@ -47,8 +47,8 @@ module _ {A B : Type 0} (f : A → B) where
   pub write_end : (s : List A) (t now : List B) (i : ℕ) → length s ≤ i → length s ≡ length t → Written s t now i → now ≡ map f s
   write_end s t now i h n w =
       let k : length t ≤ i = omega arith in
-      w.1 ∙ rw (take_all i (map f s) (rw (length_map s f) h), drop_of_length-le t k, append-nil)
+      w.1 ∙ rw (take_all i (map f s) (rw (length-map s f) h), drop_of_length-le t k, append-nil)
 
 -- in place, the sample at i is still the one that came in
 pub in_place : {A : Type 0} (f : A → A) (s now : List A) (i : ℕ) (d : A) → i < length s → Written f s s now i → get_or now i d ≡ get_or s i d
-in_place f s now i d h w = rw w.1 (still (map f s) s i d (rw (length_map s f) h) h)
+in_place f s now i d h w = rw w.1 (still (map f s) s i d (rw (length-map s f) h) h)

@@ -12,7 +12,7 @@ pub use wholes::f32_to_u16;
 pub use widening::u8_to_u16;
 
 // What a row operation answers.
-#[derive(Drop)]
+#[derive(Clone, Copy)]
 pub enum Rowed {
     Done,
     Refused(Refusal),

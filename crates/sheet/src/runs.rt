@@ -12,7 +12,7 @@ const BUFFER_BYTES: usize = 131072;
 type Buffer = [u8; BUFFER_BYTES];
 
 // Where a run stands; `failed` is whether a read failed, and `turns` how many blocks may still be read, 0 once the input has ended.
-#[derive(Drop)]
+#[derive(Clone, Copy)]
 pub(crate) struct Telling {
     pub sheet: Sheet,
     pub failed: bool,

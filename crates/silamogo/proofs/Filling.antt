@@ -4,7 +4,7 @@ use mathlib.Core.List.{List, map, map-append}
 use Prim.Native.Nat.{ℕ, ◌+◌, ◌≤◌, ◌<◌, min}
 use native.Mathlib.Numerals.{add-one}
 use native.Mathlib.Omega.{arith}
-use lib.ListN.{length, take, set, get_or, length_map, length-set, get_or_map}
+use lib.ListN.{length, take, set, get_or, length-map, length-set, get_or-map}
 use lib.Seq.{take-suc, take_all, take-suc-set}
 use Rattle.value.specs.declared.Kind.{Kind}
 use Rattle.value.specs.declared.Kind.TheVariants as kind
@@ -63,13 +63,13 @@ module _ (ns : List ℕ) where
 
   pub shape_start : {end : ℕ} {s : Shape} → end ≡ min (length ns) 12 → s ≡ blank_shape → ShapeFilled end s 0
   unfolding padded
-  shape_start {end} {s} q e = rw e (omega arith, q ∙ ap (λ (n : ℕ). min n 12) (sym (length_map ns place_in)), refl, refl)
+  shape_start {end} {s} q e = rw e (omega arith, q ∙ ap (λ (n : ℕ). min n 12) (sym (length-map ns place_in)), refl, refl)
 
   module _ (end : ℕ) (s : Shape) (at : ℕ) (filled : ShapeFilled end s at) where
     pub shape_more : at < end → {k : Kind} → k ≡ kind_for (get_or ns at 0)
         → ShapeFilled end (record { places = set s.places at (place_for k); count = s.count }) (at + 1)
     shape_more h q = filled_more (place_for kind.U8) (map place_in ns) end at s.places filled h (place_in 0)
-        (ap place_for q ∙ sym (get_or_map place_in ns at 0))
+        (ap place_for q ∙ sym (get_or-map place_in ns at 0))
 
     pub shape_end : end ≤ at → ◌≡◌ {A = Shape} (record { places = s.places; count = length ns }) (shape_for ns)
     shape_end h = rw (filled_all (place_for kind.U8) (map place_in ns) end at s.places filled h)

@@ -5,7 +5,7 @@ use mathlib.Core.List.{List, [], ◌∷◌, map}
 use Prim.Native.Nat.{ℕ, zero, suc, ◌+◌, ◌≤◌, ◌<◌}
 use native.Mathlib.Numerals.{add-one}
 use native.Mathlib.Omega.{arith}
-use lib.ListN.{length, drop, get_or, length_map, drop_of_length-le, get_or_map}
+use lib.ListN.{length, drop, get_or, length-map, drop_of_length-le, get_or-map}
 use lib.Seq.{drop-cons}
 use Rattle.value.specs.declared.Value.{Value}
 use Rattle.record.specs.Record.{field_for}
@@ -84,7 +84,7 @@ module _ (ns bs : List ℕ) (even : length ns ≡ length bs) where
 
   -- the fields
   pub fields_length : length (map field_in ss) ≡ length ns
-  fields_length = length_map ss field_in ∙ pairs_length ns bs even
+  fields_length = length-map ss field_in ∙ pairs_length ns bs even
 
   pub field_at : (at : ℕ) {v : Value} → v ≡ value_for (sample_for (get_or ns at 0) (get_or bs at 0)) → field_for v ≡ get_or (map field_in ss) at (field_in (sample_for 0 0))
-  field_at at q = ap field_for q ∙ sym (get_or_map field_in ss at (sample_for 0 0) ∙ ap field_in (pair_at_lem ns bs even at))
+  field_at at q = ap field_for q ∙ sym (get_or-map field_in ss at (sample_for 0 0) ∙ ap field_in (pair_at_lem ns bs even at))

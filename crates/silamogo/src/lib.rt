@@ -22,14 +22,14 @@ pub use singles::{
 
 // A sample: its kind's number, and its bits; a signed number in two's complement of its own width, all bits above are 0.
 #[repr(C)]
-#[derive(Drop)]
+#[derive(Clone, Copy)]
 pub struct Sample {
     pub kind: u8,
     pub bits: u64,
 }
 
 #[repr(C)]
-#[derive(Drop)]
+#[derive(Clone, Copy)]
 pub struct Answer {
     pub number: u8,
     pub place: usize,
@@ -37,7 +37,7 @@ pub struct Answer {
 
 // An order: 0 Less, 1 Equal, 2 Greater, 3 Unordered.
 #[repr(C)]
-#[derive(Drop)]
+#[derive(Clone, Copy)]
 pub struct Ordered {
     pub number: u8,
     pub place: usize,
@@ -46,7 +46,7 @@ pub struct Ordered {
 
 // A class: 0 zero, 1 subnormal, 2 normal, 3 infinite, 4 NaN.
 #[repr(C)]
-#[derive(Drop)]
+#[derive(Clone, Copy)]
 pub struct Classed {
     pub number: u8,
     pub place: usize,
@@ -55,7 +55,7 @@ pub struct Classed {
 
 // A position in the total order.
 #[repr(C)]
-#[derive(Drop)]
+#[derive(Clone, Copy)]
 pub struct Positioned {
     pub number: u8,
     pub place: usize,
@@ -63,7 +63,7 @@ pub struct Positioned {
 }
 
 #[repr(C)]
-#[derive(Drop)]
+#[derive(Clone, Copy)]
 pub struct Sampled {
     pub number: u8,
     pub place: usize,
@@ -73,7 +73,7 @@ pub struct Sampled {
 
 // The length of a key.
 #[repr(C)]
-#[derive(Drop)]
+#[derive(Clone, Copy)]
 pub struct Measured {
     pub number: u8,
     pub place: usize,

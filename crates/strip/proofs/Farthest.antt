@@ -2,7 +2,7 @@
 -- place of a number; every number's place passes the test against the end, so the end is where nothing was found.
 use Rattle.std.proofs.Common.{◌≡◌, ℕ, ◌+◌, ◌-◌, ◌*◌, ◌^◌, ◌<◌, ◌≤◌, Bool, true, false, cond, not, ◌&&◌, ◌⊎◌, List, [], ◌∷◌, ◌++◌, take, drop, ℤ, pos, negsuc, refl, ap, ◌∙◌, subst, inl, inr, le_antisymm, add-one, arith, lit<, w32, SFits, to_z, of_z, ltb-false, le-ltb, lt-ltb}
 use mathlib.Core.Bool.{and-eq-true_iff}
-use borrow.Author.Tests.{not_true}
+use borrow.Author.Tests.{not-true}
 use lib.Signed.{mag, lt_z}
 use mir.ValLaws.{to_z-of_z}
 use Rattle.float.specs.Format.{inf_of, abs_of, nan_of, position_of}
@@ -121,7 +121,7 @@ module _ {test : ℤ → ℤ → Bool} {end : ℤ} (law : End test end) where
   from_sample a [] h = (a, refl, refl, λ q. q)
   from_sample a (b ∷ bs) h = rw (step_is (position_of 23 8 a) b h) (elim (true_or_false (passes test b a)) [
     | inl q ↦
-        let n = not_true (nan_of 23 8 b) ((and-eq-true_iff _ (test (position_of 23 8 b) (position_of 23 8 a))).0 q).0 in
+        let n = not-true (nan_of 23 8 b) ((and-eq-true_iff _ (test (position_of 23 8 b) (position_of 23 8 a))).0 q).0 in
         let s = from_sample b bs (omega (arith, number_inside b n)) in
         rw q (s.0, s.1, s.2, λ k. s.3 n)
     | inr q ↦ rw q (from_sample a bs h)

@@ -11,7 +11,7 @@ pub use tallies::tally_block;
 pub const MOST: u64 = 4294967295;
 
 // A sample by its bits, if there is one.
-#[derive(Drop)]
+#[derive(Clone, Copy)]
 pub enum Extreme {
     Is(u32),
     Nothing,
@@ -19,7 +19,7 @@ pub enum Extreme {
 
 // What was told of samples: how many there were, how many of each class, the lowest and the highest that aren't NaN, and the bytes left over
 // behind them; before the first, none and Nothing.
-#[derive(Drop)]
+#[derive(Clone, Copy)]
 pub struct Sheet {
     pub samples: u64,
     pub zero: u64,
@@ -33,7 +33,7 @@ pub struct Sheet {
 }
 
 // The index of a place, if there is one.
-#[derive(Drop)]
+#[derive(Clone, Copy)]
 pub enum Index {
     Is(u64),
     Nothing,
@@ -41,7 +41,7 @@ pub enum Index {
 
 // What was seen of two masters: how many samples each has, how many of the places that both have differ, the first of these, and the largest
 // distance in total order; before the first block, none and Nothing.
-#[derive(Drop)]
+#[derive(Clone, Copy)]
 pub struct Difference {
     pub left: u64,
     pub right: u64,

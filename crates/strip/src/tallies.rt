@@ -11,7 +11,7 @@ use float::{abs_f32, is_infinite_f32, is_nan_f32, position_f32};
 use std::num::wrapping_add_u64;
 
 // What a block has: how many samples of each class, and the lowest and the highest position. It has fewer than 2^32 samples.
-#[derive(Drop)]
+#[derive(Clone, Copy)]
 struct Tally {
     zero: u32,
     subnormal: u32,

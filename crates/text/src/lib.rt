@@ -1,5 +1,7 @@
 // The small words of case lines: digits and the numbers that they spell, words and lists of words, and the names of the kinds.
 // Every call is total: what is no such digit, number or name has an answer of its own.
+#![tactic(auto)]
+
 mod digits;
 mod names;
 mod words;
@@ -9,14 +11,14 @@ pub use names::{KIND_NAMES, digits_of, kind_named};
 pub use words::{after, before, nth_word, place_of, word_number};
 
 // The value of a hex digit.
-#[derive(Drop)]
+#[derive(Clone, Copy)]
 pub enum Digit {
     Is(u8),
     Nothing,
 }
 
 // The number that digits spell.
-#[derive(Drop)]
+#[derive(Clone, Copy)]
 pub enum Number {
     Is(u64),
     Malformed,

@@ -9,7 +9,7 @@ mod patterns;
 pub use kinds::{bytes_of, kind_number, kind_of, kind_of_number, layout_of, width_of};
 pub use patterns::{bits_f32, bits_f64, bits_of, f32_value, f64_value, value_of};
 
-#[derive(Drop)]
+#[derive(Clone, Copy)]
 pub enum Kind {
     U8,
     U16,
@@ -25,7 +25,7 @@ pub enum Kind {
 }
 
 // A kind's form: how many bits, and of a float how many of them are the fraction.
-#[derive(Drop)]
+#[derive(Clone, Copy)]
 pub enum Layout {
     Unsigned(u8),
     Signed(u8),
@@ -33,7 +33,7 @@ pub enum Layout {
 }
 
 // The second part of F32 and F64 is the pattern of a NaN: it is looked at only when the float is a NaN. F16 is its 16 bits.
-#[derive(Drop)]
+#[derive(Clone, Copy)]
 pub enum Value {
     U8(u8),
     U16(u16),
@@ -49,14 +49,14 @@ pub enum Value {
 }
 
 // The number of the rule that refused, and the place of the first field or sample that it met.
-#[derive(Drop)]
+#[derive(Clone, Copy)]
 pub struct Refusal {
     pub number: u8,
     pub place: usize,
 }
 
 // The kind with a number, if there is one.
-#[derive(Drop)]
+#[derive(Clone, Copy)]
 pub enum KindFound {
     Is(Kind),
     Nothing,

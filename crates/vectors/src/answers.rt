@@ -7,7 +7,7 @@ use float::{Class, Order};
 use text::{KIND_NAMES, digits_of, nth_word};
 use value::{Refusal, Value, bits_of, kind_number, kind_of};
 
-#[derive(Drop)]
+#[derive(Clone, Copy)]
 pub enum Answer {
     Class(Class),
     Order(Order),

@@ -4,7 +4,7 @@ ghost use Rattle.std.specs.Prelude.{◌≡◌, ◌≤◌};
 use text::{Number, decimal_number};
 
 // How many; none where the text is not of the grammar.
-#[derive(Drop)]
+#[derive(Clone, Copy)]
 pub struct Count {
     pub count: usize,
     pub well_formed: bool,

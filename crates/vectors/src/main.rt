@@ -23,7 +23,7 @@ use text::place_of;
 
 // Where a run stands: `held` bytes of a line that has begun are at the front of the input buffer, which always has room for one more, and
 // `used` bytes wait in the output buffer. `turns` is how many blocks may still be read, 0 once the input has ended.
-#[derive(Drop)]
+#[derive(Clone, Copy)]
 struct State {
     held: usize,
     used: usize,
@@ -31,7 +31,7 @@ struct State {
 }
 
 // What a block of input came to: its lines before `next` are answered.
-#[derive(Drop)]
+#[derive(Clone, Copy)]
 struct Done {
     next: usize,
     used: usize,

@@ -5,19 +5,19 @@ ghost use Rattle.vectors.specs.Operands.{with_digits, value_in, values_in, value
 use text::{Number, after, before, digits_of, hex_number, kind_named};
 use value::{Kind, KindFound, Value, value_of};
 
-#[derive(Drop)]
+#[derive(Clone, Copy)]
 pub enum OneValue {
     Is(Value),
     Malformed,
 }
 
-#[derive(Drop)]
+#[derive(Clone, Copy)]
 pub enum TwoValues {
     Are(Value, Value),
     Malformed,
 }
 
-#[derive(Drop)]
+#[derive(Clone, Copy)]
 pub enum ValueAndKind {
     Are(Value, Kind),
     Malformed,

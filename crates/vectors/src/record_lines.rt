@@ -9,7 +9,7 @@ use record::{Made, Record, Recorded};
 use text::{after, before};
 
 // An answer, and where it is a record: the record.
-#[derive(Drop)]
+#[derive(Clone, Copy)]
 pub struct RecordAnswer {
     pub answer: Answer,
     pub record: Record,

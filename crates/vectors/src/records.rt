@@ -10,21 +10,21 @@ use text::{after, before, kind_named, word_number};
 use value::{Kind, KindFound, Value, kind_of, value_of};
 
 // A record, and whether the text is one.
-#[derive(Drop)]
+#[derive(Clone, Copy)]
 pub struct RecordRead {
     pub record: Record,
     pub well_formed: bool,
 }
 
 // A shape, and whether the text is one.
-#[derive(Drop)]
+#[derive(Clone, Copy)]
 pub struct ShapeRead {
     pub shape: Shape,
     pub well_formed: bool,
 }
 
 // Two records, and whether the text is two parted by one space.
-#[derive(Drop)]
+#[derive(Clone, Copy)]
 pub struct TwoRecords {
     pub one: Record,
     pub other: Record,

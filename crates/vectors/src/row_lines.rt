@@ -13,7 +13,7 @@ use text::{after, before, kind_named};
 use value::{Kind, KindFound, Value};
 
 // An answer, and where it is a row: the first `count` samples of the row of a kind.
-#[derive(Drop)]
+#[derive(Clone, Copy)]
 pub struct RowAnswer {
     pub answer: Answer,
     pub kind: Kind,
@@ -21,7 +21,7 @@ pub struct RowAnswer {
 }
 
 // A bound; 0 where the text is none.
-#[derive(Drop)]
+#[derive(Clone, Copy)]
 struct Bound {
     x: f32,
     well_formed: bool,

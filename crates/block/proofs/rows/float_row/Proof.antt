@@ -1,6 +1,6 @@
 -- No sample is refused, so the second row holds the samples' casts.
 use Rattle.std.proofs.Common.{◌≡◌, ℕ, List, map, length, ap, ◌∙◌, rules}
-use lib.ListN.{length_map}
+use lib.ListN.{length-map}
 use lib.Seq.{sets}
 use lib.Ieee.{is_nan}
 use Rattle.value.specs.declared.Kind.TheVariants as kind
@@ -43,7 +43,7 @@ store_f32s_requires c κs =
     let s = loaded.before.before.before.before.before.before in
     let w = loaded.load-u16s.new.1.0 in (
       ap (any is_nan) (casts rowed) ∙ casts_numbers w (λ i h. (rowed.before.before.before.slice-known4.given i).fits),
-      rw (ap length (casts rowed) ∙ length_map w as_f32 ∙ many loaded) s.requires.2,
+      rw (ap length (casts rowed) ∙ length-map w as_f32 ∙ many loaded) s.requires.2,
     )
 
 returns : tie.Need-returns

@@ -2,7 +2,7 @@
 use mathlib.Core.List.{[], ◌∷◌}
 use mathlib.Core.Path.{◌≡◌, ap}
 use mathlib.Core.Bool.{true, false, not}
-use borrow.Author.Tests.{not_true}
+use borrow.Author.Tests.{not-true}
 use Rattle.float.specs.Order.{is_less, is_less_or_equal, is_greater, is_unordered}
 use Rattle.cmp.proofs.OrderKeys.{order_keys}
 use Rattle.choose.proofs.Choice.{clamped_bounds, clamped_nan, clamped_lower, clamped_upper, clamped_self}
@@ -14,10 +14,10 @@ in_order : (c : tie.At-match-keys1) → is_less_or_equal c.before.args.bounds �
 in_order c = order_keys is_less_or_equal 0 (1 ∷ []) c.before.args.bounds c.match.keys1 tt
 
 low_ordered : (c : tie.At-match2-keys3) → is_unordered c.before.before.args.low ≡ false
-low_ordered c = not_true _ (order_keys (λ o. not (is_unordered o)) 1 (2 ∷ []) c.before.before.args.low c.match2.keys3 tt)
+low_ordered c = not-true _ (order_keys (λ o. not (is_unordered o)) 1 (2 ∷ []) c.before.before.args.low c.match2.keys3 tt)
 
 not_below : (c : tie.At-match2-keys3) → is_less c.before.before.args.low ≡ false
-not_below c = not_true _ (order_keys (λ o. not (is_less o)) 1 (2 ∷ []) c.before.before.args.low c.match2.keys3 tt)
+not_below c = not-true _ (order_keys (λ o. not (is_less o)) 1 (2 ∷ []) c.before.before.args.low c.match2.keys3 tt)
 
 returns : tie.Need-returns
 returns c = clamped_nan _ _ _ _ _ _ (in_order c.before.before) (ap is_unordered c.enum_told.given.1)
@@ -32,7 +32,7 @@ returns_3 c = clamped_upper _ _ _ _ _ _ (in_order c.before.before.before) (low_o
 returns_4 : tie.Need-returns-4
 returns_4 c =
     clamped_self _ _ _ _ _ _ (in_order c.before.before) (low_ordered c.before) (not_below c.before)
-    (not_true _ (order_keys (λ o. not (is_greater o)) 0 (1 ∷ 3 ∷ []) c.before.before.before.args.high c.match3.keys2 tt))
+    (not-true _ (order_keys (λ o. not (is_greater o)) 0 (1 ∷ 3 ∷ []) c.before.before.before.args.high c.match3.keys2 tt))
 
 returns_5 : tie.Need-returns-5
 returns_5 c = clamped_bounds _ _ _ _ _ _ (order_keys (λ o. not (is_less_or_equal o)) 2 (3 ∷ []) c.before.args.bounds c.match.keys2 tt)

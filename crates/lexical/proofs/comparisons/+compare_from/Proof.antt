@@ -5,7 +5,7 @@ use mathlib.Core.List.{[], ◌∷◌}
 use mathlib.Core.Bool.{not}
 use native.Mathlib.Omega.{arith}
 use borrow.Author.Rules.{rules}
-use borrow.Author.Tests.{not_true}
+use borrow.Author.Tests.{not-true}
 use borrow.Fn.Kinds.{In}
 use borrow.Fn.PlainCycle.{Measures, is, falls, and}
 use Rattle.float.specs.Order.{is_equal}
@@ -86,7 +86,7 @@ returns_3 : (t : ℕ) → compare-from-lts.Need-returns-3 (
 returns_3 t c =
     let s = c.before.before.before in
     let o = c.before.order-at.result in
-    let stop = not_true (is_equal o) (order_keys (λ p. not (is_equal p)) 0 (2 ∷ 3 ∷ []) o c.match.keys2 tt) in
+    let stop = not-true (is_equal o) (order_keys (λ p. not (is_equal p)) 0 (2 ∷ 3 ∷ []) o c.match.keys2 tt) in
     decided_here s.args.a s.args.b _ _ s.well-formed.0.1.1.0.1.0.1 s.well-formed.1.0.1.1.0.1.0.1
     c.before.before.if1.false s.requires.1.0 o stop c.before.order-at.ensures
 
