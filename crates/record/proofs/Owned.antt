@@ -3,9 +3,9 @@
 use Prim.Native.Nat.{ℕ, zero, suc, ◌^◌, ◌<◌}
 use mathlib.Core.Path.{◌≡◌, refl, ◌∙◌}
 use mathlib.Core.Logic.{◌↔◌}
-use mathlib.Core.List.{List, [], ◌∷◌, map}
+use mathlib.Core.List.{List, [], ◌∷◌}
 use native.Mathlib.Omega.{arith}
-use lib.ListN.{length, get_or, length-map}
+use lib.ListN.{length, get_or}
 use mir.Val.{Val}
 use denote.RattleType.{RattleType}
 use denote.Shadow.{shadow}
@@ -26,17 +26,16 @@ use Rattle.record.specs.contracts.Field as field-type
 use Rattle.record.specs.contracts.Place as place-type
 use Rattle.record.specs.contracts.Record as record-type
 use Rattle.record.specs.contracts.Shape as shape-type
-use Rattle.record.proofs.Twelve.{twelve, twelve_places}
 
 -- ---- what owning tells
 
 -- what owning one element tells holds of the element in each place, if it holds of what stands for the places past the end
-each_told : {A : Type 0} (P : A → Type 0) (R : RattleType) (into : A → R.Denot) → ((x : A) (vs : List Val) → Is R (into x) vs → P x)
-    → (d : A) → P d → (xs : List A) (us : List Val) → shadow (each R.Denot R.own_val (map into xs) us) → (at : ℕ) → P (get_or xs at d)
-each_told P R into told d h [] us p at = h
-each_told P R into told d h (x ∷ xs) [] p at = absurd p
-each_told P R into told d h (x ∷ xs) (u ∷ us) p zero = told x (u ∷ []) p.0
-each_told P R into told d h (x ∷ xs) (u ∷ us) p (suc at) = each_told P R into told d h xs us p.1 at
+each_told : (R : RattleType) (P : R.Denot → Type 0) → ((x : R.Denot) (vs : List Val) → Is R x vs → P x)
+    → (d : R.Denot) → P d → (xs : List R.Denot) (us : List Val) → shadow (each R.Denot R.own_val xs us) → (at : ℕ) → P (get_or xs at d)
+each_told R P told d h [] us p at = h
+each_told R P told d h (x ∷ xs) [] p at = absurd p
+each_told R P told d h (x ∷ xs) (u ∷ us) p zero = told x (u ∷ []) p.0
+each_told R P told d h (x ∷ xs) (u ∷ us) p (suc at) = each_told R P told d h xs us p.1 at
 
 field_held : (f : Field) (vs : List Val) → Is field-type.the_row f vs → InRange f.value
 field_held f vs p = value_held f.value _ p.1.1.0
@@ -63,12 +62,12 @@ place_stands : (p : Place) → Stands place-type.the_row p
 place_stands p = (_, ((_, tt), (refl, ((kind_stands p.kind).1, tt))))
 
 -- if each element can be held, so can all
-each_stands : {A : Type 0} (R : RattleType) (into : A → R.Denot) (d : A) (xs : List A) → ((at : ℕ) → Stands R (into (get_or xs at d)))
-    → (us : List Val) × shadow (each R.Denot R.own_val (map into xs) us)
-each_stands R into d [] h = ([], tt)
-each_stands R into d (x ∷ xs) h =
+each_stands : (R : RattleType) (d : R.Denot) (xs : List R.Denot) → ((at : ℕ) → Stands R (get_or xs at d))
+    → (us : List Val) × shadow (each R.Denot R.own_val xs us)
+each_stands R d [] h = ([], tt)
+each_stands R d (x ∷ xs) h =
     let first = h 0 in
-    let rest = each_stands R into d xs (λ at. h (suc at)) in
+    let rest = each_stands R d xs (λ at. h (suc at)) in
     (first.0 ∷ rest.0, (first.1, rest.1))
 
 -- ---- records and shapes
@@ -76,24 +75,21 @@ each_stands R into d (x ∷ xs) h =
 pub record_held : (r : Record) → ((vs : List Val) × Is record-type.the_row r vs)
     ↔ ((length r.fields ≡ 12) × ((at : ℕ) → InRange (value_at r.fields at)) × (r.count < 2 ^ 64))
 record_held r =
-    let row = (field-type.the_field).row in
-    let into = (field-type.the_field).into in
     let none = field_for (U8 0) in (
       (λ held.
           let own = held.1.1.1 in
-          let each_range = each_told (λ (f : Field). InRange f.value) row into field_held none (omega arith) in
-          (twelve r own.0.1.0.1, each_range r.fields _ own.0.1.1, own.1.0.1)),
+          let each_range = each_told field-type.the_row (λ (f : Field). InRange f.value) field_held none (omega arith) in
+          (own.0.1.0.1, each_range r.fields _ own.0.1.1, own.1.0.1)),
       λ good.
-          let fields = each_stands row into none r.fields (λ at. field_stands (get_or r.fields at none) (good.1 at)) in
-          (_, ((_, (_, tt)), (refl, ((fields.0, ((refl, length-map r.fields into ∙ good.0), fields.1)), ((refl, good.2), tt))))),
+          let fields = each_stands field-type.the_row none r.fields (λ at. field_stands (get_or r.fields at none) (good.1 at)) in
+          (_, ((_, (_, tt)), (refl, ((fields.0, ((refl, good.0), fields.1)), ((refl, good.2), tt))))),
     )
 
 pub shape_held : (s : Shape) → ((vs : List Val) × Is shape-type.the_row s vs) ↔ ((length s.places ≡ 12) × (s.count < 2 ^ 64))
 shape_held s =
-    let into = (place-type.the_field).into in
     let none = place_for kind.U8 in (
-      (λ held. let own = held.1.1.1 in (twelve_places s own.0.1.0.1, own.1.0.1)),
+      (λ held. let own = held.1.1.1 in (own.0.1.0.1, own.1.0.1)),
       λ good.
-          let places = each_stands (place-type.the_field).row into none s.places (λ at. place_stands (get_or s.places at none)) in
-          (_, ((_, (_, tt)), (refl, ((places.0, ((refl, length-map s.places into ∙ good.0), places.1)), ((refl, good.1), tt))))),
+          let places = each_stands place-type.the_row none s.places (λ at. place_stands (get_or s.places at none)) in
+          (_, ((_, (_, tt)), (refl, ((places.0, ((refl, good.0), places.1)), ((refl, good.1), tt))))),
     )

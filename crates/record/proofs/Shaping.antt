@@ -15,7 +15,7 @@ use Rattle.record.specs.declared.Place.{Place}
 use Rattle.record.specs.declared.Record.{Record}
 use Rattle.record.specs.declared.Shape.{Shape}
 use Rattle.record.specs.Record.{field_for, fields_of, value_at, place_for, kinds_of, shape_for}
-use Rattle.record.proofs.Twelve.{Twelve, twelve}
+use Rattle.record.proofs.Twelve.{Twelve}
 
 abbrev pub places_from : ℕ → List Kind → List Place
 places_from at ks = map place_for ks ++ replicate (12 - at) (place_for kind.U8)
@@ -26,7 +26,6 @@ places_so_far l at h = simp length-map (length-take-le at l h)
 pub one_more : (r : Record) (at : ℕ) {k : Kind} → Twelve r → at < 12 → k ≡ kind_of (value_at r.fields at)
     → set (places_from at (kinds_of (take at r.fields))) at (place_for k) ≡ places_from (at + 1) (kinds_of (take (at + 1) r.fields))
 one_more r at {k} t h q =
-    let l = twelve r t in
     let e : 12 - at ≡ suc (12 - (at + 1)) = omega arith in
     let so_far = map place_for (kinds_of (take at r.fields)) in
     let rest = replicate (12 - (at + 1)) (place_for kind.U8) in
@@ -39,6 +38,5 @@ one_more r at {k} t h q =
 pub filled : (r : Record) (at : ℕ) (ps : List Place) → Twelve r → r.count ≤ 12 → at ≡ r.count → ps ≡ places_from at (kinds_of (take at r.fields))
     → ◌≡◌ {A = Shape} (record { places = ps; count = r.count }) (shape_for (kinds_of (fields_of r)))
 filled r at ps t h e q =
-    let l = twelve r t in
     let n : length (kinds_of (fields_of r)) ≡ r.count = simp length-map (length-take-le r.count r.fields (omega arith)) in
     rw (q, n, e)

@@ -4,25 +4,15 @@ use mathlib.Core.Path.{◌≡◌, sym, ◌∙◌}
 use mathlib.Core.Bool.{Bool, false}
 use native.Mathlib.Omega.{arith}
 use lib.Dec.{eqb, ltb}
-use lib.ListN.{length, length-map}
+use lib.ListN.{length}
 use borrow.Author.Tests.{ltb-false}
 use Rattle.float.proofs.Tests.{neither}
 use Rattle.record.specs.declared.Record.{Record}
-use Rattle.record.specs.declared.Shape.{Shape}
 use Rattle.record.specs.Record.{bad_count}
-use Rattle.record.specs.contracts.Record as record-type
-use Rattle.record.specs.contracts.Shape as shape-type
 
--- what owning a record tells, and of its fields
+-- a record's fields are twelve
 abbrev pub Twelve : Record → Type 0
-Twelve r = length ((record-type.the_type).to r).0 ≡ 12
-
-pub twelve : (r : Record) → Twelve r → length r.fields ≡ 12
-twelve r h = simp length-map at h
-
--- and owning a shape, of its places
-pub twelve_places : (s : Shape) → length ((shape-type.the_type).to s).0 ≡ 12 → length s.places ≡ 12
-twelve_places s h = simp length-map at h
+Twelve r = length r.fields ≡ 12
 
 pub is_inside : {t : Bool} (at : ℕ) → t ≡ ltb 11 at → t ≡ false → at < 12
 is_inside at q h = omega (arith, ltb-false 11 at (sym q ∙ h))

@@ -7,8 +7,8 @@ use Rattle.record.proofs.makings.get.Goals as goal
 
 pub returns-then-is_outside : goal.returns-then-is_outside
 unfolding get_of
-returns-then-is_outside c =rw (sym c.is_outside.ensures ∙ c.if-is_outside.true)
+returns-then-is_outside c = rw (sym c.is_outside.ensures ∙ c.if-is_outside.true)
 
 pub returns-else-is_outside : goal.returns-else-is_outside
 unfolding get_of
-returns-else-is_outside c =rw (sym c.is_outside.ensures ∙ c.if-is_outside.false, c.value_at.ensures)
+returns-else-is_outside c = rw (sym c.is_outside.ensures ∙ c.if-is_outside.false, c.value_at.ensures)

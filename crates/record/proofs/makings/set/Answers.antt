@@ -8,8 +8,8 @@ use Rattle.record.proofs.makings.set.Goals as goal
 
 pub returns-then-is_outside : goal.returns-then-is_outside
 unfolding set_of
-returns-then-is_outside c =rw (sym c.is_outside.ensures ∙ c.if-is_outside.true, c.refused.ensures)
+returns-then-is_outside c = rw (sym c.is_outside.ensures ∙ c.if-is_outside.true, c.refused.ensures)
 
 pub returns : goal.returns
 unfolding set_of
-returns c =rw (sym c.is_outside.ensures ∙ c.if-is_outside.false, c.done.ensures)
+returns c = rw (sym c.is_outside.ensures ∙ c.if-is_outside.false, c.done.ensures)

@@ -12,8 +12,8 @@ use Rattle.record.proofs.shapes.shape_for.Goals as goal
 
 pub loop-at-preserved : goal.loop-at-preserved
 loop-at-preserved c =
-(
+    (
       omega arith,
       rw c.loop-at.invariant.1
-          (one_more c.args.r _ c.well-formed.0.1.1.0.1.0.1 (omega arith) (c.kind_of.ensures ∙ ap kind_of c.value_at.ensures)),
+          (one_more c.args.r _ (search rules) (omega arith) (c.kind_of.ensures ∙ ap kind_of c.value_at.ensures)),
     )

@@ -7,8 +7,8 @@ use Rattle.record.proofs.shapes.shape_of.Goals as goal
 
 pub returns-then-bad_count : goal.returns-then-bad_count
 unfolding shape_of
-returns-then-bad_count c = rw (← c.bad_count_lem.ensures, c.if-bad_count.true, c.blank_shape.ensures)
+returns-then-bad_count c = rw (← c.bad_count.ensures, c.if-bad_count.true, c.blank_shape.ensures)
 
 pub returns-else-bad_count : goal.returns-else-bad_count
 unfolding shape_of
-returns-else-bad_count c = rw (← c.bad_count_lem.ensures, c.if-bad_count.false, c.shape_for.ensures)
+returns-else-bad_count c = rw (← c.bad_count.ensures, c.if-bad_count.false, c.shape_for.ensures)
