@@ -1,0 +1,37 @@
+-- Each arm knows its case; a narrow signed number is read back from its bits at the wider type.
+use mathlib.Core.Path.{refl, sym, ◌∙◌, ap}
+use borrow.Author.Rules.{rules}
+use lib.Dec.{lit≤}
+use lib.IntN.{ℤ}
+use mir.Syntax.{w8, w16, w32, w64}
+use mir.Val.{SFits}
+use mir.ValLaws.{to_z-of_z}
+use Rattle.float.specs.Format.{f16, f32, f64}
+use Rattle.float.specs.Number.{times}
+use Rattle.value.specs.Meaning.{whole_of, unit, step_of, exact_of}
+use Rattle.value.proofs.TwosComplement.{wider, recast, recast_back}
+use Rattle.convert.proofs.Taken.{taken_pattern}
+use Rattle.convert.proofs.sources.parts_of.Goals as goal
+
+pub returns-in-F32 : goal.returns-in-F32
+unfolding step_of
+returns-in-F32 c =
+    c.float_parts.ensures
+    ∙ ap (times (step_of f32))
+    (taken_pattern f32 c.bits_f32-b.ensures c.is_sign_negative_f32.ensures c.abs_f32.ensures)
+    ∙ sym (ap exact_of c.in-F32.is)
+
+pub returns-in-F64 : goal.returns-in-F64
+unfolding step_of
+returns-in-F64 c =
+    c.float_parts-in-F64.ensures
+    ∙ ap (times (step_of f64))
+    (taken_pattern f64 c.bits_f64-b.ensures c.is_sign_negative_f64.ensures c.abs_f64.ensures)
+    ∙ sym (ap exact_of c.in-F64.is)
+
+pub returns-in-F16 : goal.returns-in-F16
+unfolding step_of
+returns-in-F16 c =
+    c.float_parts-in-F16.ensures
+    ∙ ap (times (step_of f16)) (taken_pattern f16 {b = c.in-F16.b} refl c.is_sign_negative_f16.ensures c.abs_f16.ensures)
+    ∙ sym (ap exact_of c.in-F16.is)
