@@ -13,7 +13,7 @@ use borrow.Author.Tests.{le-ltb}
 use lib.Dec.{lit<}
 use lib.IntN.{ℤ}
 use lib.Pow.{pow-add, pow_pos, pow-lt}
-use lib.Ieee.{Float, fin, Format, binary32, binary64, prec, emax, low, up, down, nearest, hid, round, neg, sum, add, sub}
+use lib.Ieee.{Float, fin, Format, binary32, binary64, prec, emax, low, up, down, nearest, hid, round, neg, sum, add, sub, nan, inf}
 use lib.Ieee.Exact.{HasValue, round_exact}
 use lib.Ieee.Fits.{down_pos, two}
 use lib.Ieee.Nearest.{closest, closest_mono, closest_same}
@@ -117,6 +117,12 @@ common_pos e d = mul-pos (down_pos e) (down_pos d)
 whole_difference : (f : Format) (x h : Float) (n k : ℕ) → HasValue x false n 1 → HasValue h false k 1 → k ≤ n → n - k < 2 ^ prec f
     → HasValue (sub f x h) false (n - k) 1
 unfolding sub add neg sum
+whole_difference f nan h n k v w g l = elim v [ ]
+whole_difference f (inf _) h n k v w g l = elim v [ ]
+whole_difference f (fin false m e) nan n k v w g l = elim w [ ]
+whole_difference f (fin false m e) (inf _) n k v w g l = elim w [ ]
+whole_difference f (fin true m e) nan n k v w g l = elim w [ ]
+whole_difference f (fin true m e) (inf _) n k v w g l = elim w [ ]
 whole_difference f (fin true m e) (fin t i d) n k v w g l = absurd (true≢false v.0)
 whole_difference f (fin false m e) (fin true i d) n k v w g l = absurd (true≢false w.0)
 whole_difference f (fin false m e) (fin false i d) n k v w g l =
@@ -153,6 +159,10 @@ record Rounded (f : Format) (y : Float) (a : ℕ) : Type 0 where
 sum_rounded : (f : Format) (x h : Float) (a : ℕ) → HasValue x false a (2 ^ low f) → HasValue h false (hid f) 1
     → a < hid f * 2 ^ low f → Rounded f (add f x h) a
 unfolding add sum
+sum_rounded f nan h a v w l = elim v [ ]
+sum_rounded f (inf _) h a v w l = elim v [ ]
+sum_rounded f (fin false m e) nan a v w l = elim w [ ]
+sum_rounded f (fin false m e) (inf _) a v w l = elim w [ ]
 sum_rounded f (fin true m e) h a v w l = absurd (true≢false v.0)
 sum_rounded f (fin false m e) (fin true i d) a v w l = absurd (true≢false w.0)
 sum_rounded f (fin false m e) (fin false i d) a v w l =

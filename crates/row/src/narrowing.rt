@@ -51,8 +51,8 @@ fn first_wide(row: &[u16]) -> usize
 }
 
 fn narrow_all(src: &[u16], dst: &mut [u8])
-    requires src_len { length src.now ≡ length dst.old }
-    requires src_value { first is_wide src.now ≡ length src.now }
+    requires same_length { length src.now ≡ length dst.old }
+    requires all_fit { first is_wide src.now ≡ length src.now }
     ensures { dst.new ≡ map (λ (n : ℕ). n) src.now }
 {
     let mut i = 0;

@@ -96,8 +96,8 @@ fn whole_of(x: f32) -> u16
 }
 
 fn whole_all(src: &[f32], dst: &mut [u16])
-    requires src_len { length src.now ≡ length dst.old }
-    requires src_value { first is_misfit src.now ≡ length src.now }
+    requires same_length { length src.now ≡ length dst.old }
+    requires all_fit { first is_misfit src.now ≡ length src.now }
     ensures { dst.new ≡ map as_u16 src.now }
 {
     let mut i = 0;

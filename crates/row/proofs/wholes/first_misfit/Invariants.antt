@@ -1,0 +1,17 @@
+-- A block without a misfit is passed whole.
+use mathlib.Core.Path.{◌≡◌, sym, ◌∙◌, ap}
+use mathlib.Core.Bool.{false}
+use Prim.Native.Nat.{ℕ, ◌+◌, ◌-◌, ◌≤◌}
+use native.Mathlib.Omega.{arith}
+use lib.ListN.{length, take, drop}
+use Rattle.row.specs.Row.{first, any}
+use Rattle.row.specs.Inner.{is_misfit}
+use Rattle.row.proofs.Scan.{reach_block}
+use borrow.Author.Rules.{rules}
+use Rattle.row.proofs.wholes.first_misfit.Given as goal
+
+abbrev pub invariant-loop-i : goal.invariant-loop-i
+invariant-loop-i l = (l.i ≤ l.n) × (l.n ≡ length l.row) × (first is_misfit l.row ≡ l.i + first is_misfit (drop l.i l.row))
+
+abbrev pub decreases-loop-i : goal.decreases-loop-i
+decreases-loop-i l = l.n - l.i

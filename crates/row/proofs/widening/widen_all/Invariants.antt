@@ -1,0 +1,14 @@
+-- Each turn writes one more sample.
+use mathlib.Core.Path.{refl}
+use Prim.Native.Nat.{ℕ, ◌-◌}
+use native.Mathlib.Omega.{arith}
+use lib.ListN.{length}
+use Rattle.row.proofs.Written.{Written, write_step, write_end}
+use borrow.Author.Rules.{rules}
+use Rattle.row.proofs.widening.widen_all.Given as goal
+
+abbrev pub invariant-loop-i : goal.invariant-loop-i
+invariant-loop-i l = Written (λ (n : ℕ). n) l.src l.initial.dst l.dst l.i
+
+abbrev pub decreases-loop-i : goal.decreases-loop-i
+decreases-loop-i l = length l.src - l.i
