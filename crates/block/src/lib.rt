@@ -1,5 +1,7 @@
 // Samples in bytes, moved block by block: what a program with files asks of each block that it has read. Nothing here reads or writes
 // a file. A block goes on from the samples before it, so that the answers of all blocks are the answer of the whole input (docs/RULES.md: Migration).
+#![tactic(auto)]
+
 mod bytes;
 mod halves;
 mod layouts;

@@ -1,0 +1,11 @@
+-- A NaN's pattern is made the one NaN; any other pattern is its float's own.
+use Rattle.std.proofs.Common.{sym, ◌∙◌, rules}
+use lib.Ieee.{binary32}
+use Rattle.value.proofs.FloatBits.{from_bits, made_nan}
+use Rattle.block.proofs.layouts.float_of.Goals as goal
+
+pub float_from_bits-result : goal.float_from_bits-result
+float_from_bits-result c = from_bits binary32 _ (search rules) (sym c.if-is_nan_f32.false ∙ c.is_nan_f32.ensures)
+
+pub returns-then-is_nan_f32 : goal.returns-then-is_nan_f32
+returns-then-is_nan_f32 c = made_nan binary32 _ (search rules) (sym c.if-is_nan_f32.true ∙ c.is_nan_f32.ensures)

@@ -1,0 +1,27 @@
+-- Each turn makes one more number of four bytes.
+use Rattle.std.proofs.Common.{◌-◌, ◌<◌, length, sym, ap, ◌∙◌, arith, rules}
+use lib.Ieee.{binary32, of_bits}
+use Rattle.row.proofs.Written.{Written, write_step, write_end}
+use Rattle.sample.specs.Samples.{numbers_in}
+use Rattle.sample.proofs.Samplings.{length_numbers, number_here}
+use Rattle.bytewise.proofs.LittleEndian.{four_here}
+use Rattle.block.proofs.layouts.load_f32s.Goals as goal
+
+pub loop-i-preserved : goal.loop-i-preserved
+loop-i-preserved c =
+    let a = c.args in
+    let n = length_numbers 4 (length a.row.now) a.src.now in
+    let here : c.loop-i.i < length a.row.now = omega (arith, c.loop-i-test.true, c.loop-i.invariant.2) in
+    write_step (of_bits binary32) (numbers_in 4 (length a.row.now) a.src.now) a.row.now c.loop-i.row c.loop-i.i 0 _
+    (omega (arith, n, here)) n c.loop-i.invariant
+    (c.float_of.ensures
+    ∙ ap (of_bits binary32)
+    (c.quad.ensures
+    ∙ sym (number_here 4 (length a.row.now) a.src.now c.loop-i.i 0 here ∙ four_here a.src.now c.loop-i.i (omega (arith, here, c.requires)))))
+
+pub returns : goal.returns
+returns c =
+    let a = c.args in
+    let n = length_numbers 4 (length a.row.now) a.src.now in
+    write_end (of_bits binary32) (numbers_in 4 (length a.row.now) a.src.now) a.row.now c.loop-i.row c.loop-i.i
+    (omega (arith, n, c.loop-i-test.false, c.loop-i.invariant.2)) n c.loop-i.invariant

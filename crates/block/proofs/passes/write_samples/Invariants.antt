@@ -1,0 +1,16 @@
+-- The first i conversions are laid down.
+use Rattle.std.proofs.Common.{◌≡◌, ◌+◌, ◌-◌, ◌*◌, ◌<◌, ◌≤◌, length, sym, ◌∙◌, zero-add, zero-mul, arith, rules}
+use Rattle.value.specs.Meaning.{value_of}
+use Rattle.value.specs.Kinds.{bytes_of}
+use Rattle.sample.specs.Samples.{count_of, samples_of}
+use Rattle.sample.proofs.Samplings.{length_samples}
+use Rattle.block.specs.Inner.{moved_bits}
+use Rattle.block.proofs.Samplings.{place_inside, next_place, Filled, fill_none, fill_step, fill_end}
+use Rattle.block.proofs.passes.write_samples.Given as goal
+
+abbrev pub invariant-loop-i : goal.invariant-loop-i
+invariant-loop-i l =
+    (l.i ≤ l.n) × (l.place ≡ l.i * bytes_of l.to) × (Filled l.to (moved_bits l.to) (samples_of l.from l.src) l.initial.dst 0 l.dst l.i)
+
+abbrev pub decreases-loop-i : goal.decreases-loop-i
+decreases-loop-i l = l.n - l.i

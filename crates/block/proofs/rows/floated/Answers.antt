@@ -1,0 +1,14 @@
+-- The rows hold what the block asks for.
+use Rattle.std.proofs.Common.{refl, mul_comm, arith, rules}
+use Rattle.value.specs.declared.Kind.TheVariants as kind
+use Rattle.sample.proofs.Samplings.{count_inside}
+use Rattle.block.proofs.Samplings.{room_inside}
+use Rattle.block.proofs.Pairs.{floated_block}
+use Rattle.block.proofs.rows.floated.Goals as goal
+
+pub returns : goal.returns
+returns c =
+    let a = c.args in
+    let both =
+    floated_block a.src.now a.dst.now c.requires.0 c.requires.1 (λ i. (c.type_inv.src i).fits) c.float_rows.ensures in
+    record { answer = both.0; exit = both.1 }
