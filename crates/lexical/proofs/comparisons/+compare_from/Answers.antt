@@ -24,4 +24,4 @@ returns-in-Equal t c =
 pub returns-in_default : goal.returns-in_default
 returns-in_default t c =
     decided_here c.args.a c.args.b _ _ (search rules) (search rules) c.if-left-eq0.false c.requires.0 _
-    (not_equal _ c.in_default.not-Equal) c.order_at-o.ensures
+    (not_equal _ (search rules)) c.order_at-o.ensures
