@@ -1,34 +1,36 @@
 -- The three comparisons give the three orders, or one of them the refusal; the last can't refuse, as both bounds have v's kind.
--- what was compared, in an arm that knows the order
 use mathlib.Core.Path.{◌≡◌, sym, ◌∙◌, ap}
-use borrow.Author.Rules.{rules}
-use Rattle.value.specs.Outcome.{gives}
+use Rattle.float.specs.declared.Order.{Order}
+use Rattle.value.specs.declared.Refusal.{Refusal}
+use Rattle.value.specs.declared.Value.{Value}
+use Rattle.value.specs.Outcome.{gives, refusal_of}
+use Rattle.cmp.specs.declared.Compared.{Compared}
+use Rattle.cmp.specs.declared.Compared.TheVariants as compared
 use Rattle.cmp.specs.Compare.{compared_outcome, compare_of}
 use Rattle.choose.proofs.Choice.{clamp_refused_lower, clamp_refused_upper, clamp_never, clamp_clamped}
 use Rattle.choose.proofs.choosing.clamp.Goals as goal
-use Rattle.choose.proofs.choosing.clamp.Goals.{In-Is-2, In-Is-compare-3}
 
-low_is : (c : In-Is-2) → gives c.in-Is.low ≡ compare_of c.args.v c.args.lower
-low_is c = sym (ap compared_outcome c.in-Is.is) ∙ c.compare.ensures
+-- what was compared, in an arm that knows the order, and in one that knows the refusal
+module _ (a b : Value) {c : Compared} (h : compared_outcome c ≡ compare_of a b) where
+  order_is : {o : Order} → c ≡ compared.Is o → gives o ≡ compare_of a b
+  order_is q = sym (ap compared_outcome q) ∙ h
 
-high_is : (c : In-Is-compare-3)
-    → gives c.in-Is-compare.high
-    ≡ compare_of c.args.v c.args.upper
-high_is c = sym (ap compared_outcome c.in-Is-compare.is) ∙ c.compare-in-Is.ensures
+  refusal_is : {f : Refusal} → c ≡ compared.Refused f → refusal_of f ≡ compare_of a b
+  refusal_is q = sym (ap compared_outcome q) ∙ h
 
 pub returns-in-Is-compare-2 : goal.returns-in-Is-compare-2
 returns-in-Is-compare-2 c =
-    clamp_clamped _ _ _ (low_is ((goal.at.returns-in-Is-compare-2 c).In-Is-2)) (high_is ((goal.at.returns-in-Is-compare-2 c).In-Is-compare-3))
-    (sym (ap compared_outcome c.c.before.before.given.1) ∙ c.compare-in-Is-compare.ensures) c.clamped.ensures
+    clamp_clamped _ _ _ (order_is _ _ c.compare.ensures c.in-Is.is) (order_is _ _ c.compare-in-Is.ensures c.in-Is-compare.is)
+    (order_is _ _ c.compare-in-Is-compare.ensures c.in-Is-compare-2.is) c.clamped.ensures
 
 pub returns-in-Refused-compare-2 : goal.returns-in-Refused-compare-2
 returns-in-Refused-compare-2 c =
-    clamp_never _ _ _ (low_is ((goal.at.returns-in-Refused-compare-2 c).In-Is-2)) (high_is ((goal.at.returns-in-Refused-compare-2 c).In-Is-compare-3)) _ (sym (ap compared_outcome c.in-Refused-compare-2.is) ∙ c.compare-in-Is-compare.ensures)
+    clamp_never _ _ _ (order_is _ _ c.compare.ensures c.in-Is.is) (order_is _ _ c.compare-in-Is.ensures c.in-Is-compare.is) _
+    (refusal_is _ _ c.compare-in-Is-compare.ensures c.in-Refused-compare-2.is)
 
 pub returns-in-Refused-compare : goal.returns-in-Refused-compare
 returns-in-Refused-compare c =
-    clamp_refused_upper _ _ _ (low_is ((goal.at.returns-in-Refused-compare c).In-Is-2)) _ (sym (ap compared_outcome c.in-Refused-compare.is) ∙ c.compare-in-Is.ensures)
+    clamp_refused_upper _ _ _ (order_is _ _ c.compare.ensures c.in-Is.is) _ (refusal_is _ _ c.compare-in-Is.ensures c.in-Refused-compare.is)
 
 pub returns-in-Refused : goal.returns-in-Refused
-returns-in-Refused c =
-    clamp_refused_lower _ _ _ _ (sym (ap compared_outcome c.in-Refused.is) ∙ c.compare.ensures)
+returns-in-Refused c = clamp_refused_lower _ _ _ _ (refusal_is _ _ c.compare.ensures c.in-Refused.is)

@@ -3,7 +3,6 @@ use mathlib.Core.Path.{◌∙◌, ap}
 use Rattle.value.specs.Outcome.{and_then}
 use Rattle.cmp.specs.Inner.{chosen_by}
 use Rattle.choose.proofs.Choice.{min_chosen}
-use borrow.Author.Rules.{rules}
 use Rattle.choose.proofs.choosing.min.Goals as goal
 
 pub returns : goal.returns
