@@ -1,4 +1,6 @@
 // Choosing between two values, and clamping one (docs/RULES.md: Choosing and clamping).
+#![tactic(auto)]
+
 mod choosing;
 mod ranges;
 

@@ -15,7 +15,7 @@ use Rattle.record.specs.declared.Field.{Field}
 use Rattle.record.specs.declared.Record.{Record}
 use Rattle.record.specs.Record.{fields_of, value_at}
 use Rattle.lexical.specs.Lexical.{shapes_differ}
-use Rattle.record.proofs.Twelve.{Twelve, twelve}
+use Rattle.record.proofs.Twelve.{Twelve}
 use Rattle.lexical.proofs.Steps.{left_in, shapes_step}
 
 same_lengths : (xs ys : List Field) → shapes_differ xs ys ≡ false → length xs ≡ length ys
@@ -30,8 +30,6 @@ same_lengths (x ∷ xs) (y ∷ ys) h = ap suc (same_lengths xs ys (neither (kind
 module _ (a b : Record) (ta : Twelve a) (tb : Twelve b) (ha : a.count ≤ 12) (hb : b.count ≤ 12) where
   pub one_count : shapes_differ (fields_of a) (fields_of b) ≡ false → a.count ≡ b.count
   one_count s =
-      let la = twelve a ta in
-      let lb = twelve b tb in
       sym (length-take-le a.count a.fields (omega arith)) ∙ same_lengths (fields_of a) (fields_of b) s ∙ length-take-le b.count b.fields (omega arith)
 
   pub counts_differ : (a.count ≡ b.count → ⊥) → true ≡ shapes_differ (fields_of a) (fields_of b)

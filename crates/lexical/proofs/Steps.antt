@@ -14,7 +14,7 @@ use Rattle.float.specs.Order.{is_equal, or_else}
 use Rattle.float.proofs.Tests.{neither}
 use Rattle.value.specs.declared.Value.TheVariants.{U8}
 use Rattle.cmp.specs.Compare.{kinds_differ, value_order}
-use Rattle.record.proofs.Twelve.{Twelve, twelve}
+use Rattle.record.proofs.Twelve.{Twelve}
 use Rattle.record.specs.declared.Field.{Field}
 use Rattle.record.specs.declared.Record.{Record}
 use Rattle.lexical.specs.declared.comparisons.Decision.{Decision}
@@ -31,6 +31,12 @@ left_cons : (l : List Field) (at left : ℕ) → (left ≡ 0 → ⊥) → at < l
 left_cons l at zero some h = absurd (some refl)
 left_cons l at (suc n) some h = rw (add-one at, sub-one (suc n), drop-cons l at (field_for (U8 0)) h)
 
+pub not_equal : (o : Order) → (o ≡ Equal → ⊥) → is_equal o ≡ false
+not_equal Less n = refl
+not_equal Equal n = absurd (n refl)
+not_equal Greater n = refl
+not_equal Unordered n = refl
+
 -- an order that is not Equal decides
 stops : (at : ℕ) (o p : Order) → is_equal o ≡ false → ◌≡◌ {A = Decision} (record { order = o; at = at }) (record { order = or_else o p; at = at + 0 })
 stops at Less p h = rw (add-zero at)
@@ -46,7 +52,7 @@ decided_equal a b at left h = rw (h, add-zero at)
 
 module _ (a b : Record) (at left : ℕ) (ta : Twelve a) (tb : Twelve b) (some : left ≡ 0 → ⊥) (h : at + left ≤ 12) where
   here : (r : Record) → Twelve r → left_in r at left ≡ field_for (value_at r.fields at) ∷ left_in r (at + 1) (left - 1)
-  here r t = let l = twelve r t in left_cons r.fields at left some (omega arith)
+  here r t = left_cons r.fields at left some (omega arith)
 
   pub shapes_step : shapes_differ (left_in a at left) (left_in b at left)
       ≡ (kinds_differ (value_at a.fields at) (value_at b.fields at) || shapes_differ (left_in a (at + 1) (left - 1)) (left_in b (at + 1) (left - 1)))
