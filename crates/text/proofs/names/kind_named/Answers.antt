@@ -2,7 +2,6 @@
 use Prim.Native.Nat.{◌≤◌}
 use mathlib.Core.Path.{◌∙◌, ap}
 use native.Mathlib.Omega.{arith}
-use borrow.Author.Rules.{rules}
 use Rattle.value.specs.Kinds.{kind_at}
 use Rattle.text.specs.Words.{words_of}
 use Rattle.text.specs.Names.{kind_names, kind_named}
