@@ -1,15 +1,17 @@
 -- Which case of a digit's definition the tests pick, and how a number goes on by one digit.
 use Prim.Native.Nat.{ℕ, ◌+◌, ◌-◌, ◌*◌, ◌/◌, ◌^◌, ◌≤◌, ◌<◌}
-use mathlib.Core.Path.{◌≡◌, refl, ◌∙◌, ap}
+use mathlib.Core.Path.{◌≡◌, refl, sym, ◌∙◌, ap}
 use mathlib.Core.Bool.{Bool, true, false, cond, ◌&&◌, and-false}
 use mathlib.Core.List.{List}
+use mathlib.Core.Logic.{◌⊎◌, inl, inr}
 use native.Mathlib.Nat.{le-div_iff_mul-le, div-lt_iff_lt-mul}
 use native.Mathlib.Numerals.{add-one}
 use native.Mathlib.Omega.{arith}
-use borrow.Author.Tests.{eq-eqb, ne_eqb, le-leb, lt-leb, leb-true, lt-ltb, le-ltb, ltb-true}
+use borrow.Author.Tests.{eq-eqb, ne_eqb, eqb-true, le-leb, lt-leb, leb-true, lt-ltb, le-ltb, ltb-true}
 use lib.Dec.{eqb, leb, ltb}
 use lib.ListN.{length, get_or, drop, drop_of_length-le}
 use lib.Seq.{drop-cons}
+use Rattle.float.proofs.Naturals.{lt_or_ge}
 use Rattle.float.proofs.Tests.{clash}
 use Rattle.text.specs.declared.Digit.{Digit}
 use Rattle.text.specs.declared.Digit.TheVariants as digit
@@ -151,3 +153,12 @@ module _ (s : List ℕ) where
 
     pub decimal_single : length s ≤ 1 → decimal_of s ≡ number_from 10 s 0
     decimal_single h = decimal_tested ∙ rw (le-ltb _ _ h)
+
+-- one digit, or a first one that is no zero
+pub decimal_rest : (s : List ℕ) → (length s ≡ 0 → ⊥) → (1 < length s → get_or s 0 0 ≡ 48 → ⊥) → number_from 10 s 0 ≡ decimal_of s
+decimal_rest s nonempty unpadded = by_test (eqb (get_or s 0 0) 48) refl (lt_or_ge 1 (length s))
+  where
+    by_test : (t : Bool) → eqb (get_or s 0 0) 48 ≡ t → (1 < length s) ⊎ (length s ≤ 1) → number_from 10 s 0 ≡ decimal_of s
+    by_test t e (inr g) = sym (decimal_single s nonempty g)
+    by_test false e (inl l) = sym (decimal_unpadded s nonempty l e)
+    by_test true e (inl l) = absurd (unpadded l (eqb-true _ _ e))

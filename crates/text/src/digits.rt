@@ -69,6 +69,7 @@ pub fn hex_number(s: &[u8]) -> Number
 }
 
 // One digit or more, and no zero stands before other digits.
+#[tactic(auto, using(crate::proofs::Numbers::decimal_rest))]
 pub fn decimal_number(s: &[u8]) -> Number
     ensures { result ≡ decimal_of s.now }
 {

@@ -4,9 +4,9 @@ ghost use Rattle.text.specs.Words.{place_of, before_of, after_of, same_bytes, wo
 
 // The place of the first b in s, or the length of s. The last clause follows from the one before it: `&s[..r]` asks for both.
 pub fn place_of(b: u8, s: &[u8]) -> usize
-    ensures value { result ≡ place_of b s.now }
-    ensures upper_bound { result ≤ length s.now }
-    ensures value_2 { result ≡ length (take result s.now) }
+    ensures place { result ≡ place_of b s.now }
+    ensures in_bounds { result ≤ length s.now }
+    ensures part_length { result ≡ length (take result s.now) }
 {
     let mut i = 0;
     while i < s.len() {

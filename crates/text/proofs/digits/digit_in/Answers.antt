@@ -1,6 +1,5 @@
 -- The hex digit and the test give the case of `digit_in`.
 use mathlib.Core.Path.{sym, ◌∙◌}
-use borrow.Author.Rules.{rules}
 use Rattle.text.proofs.Numbers.{in_base, above_base, no_digit}
 use Rattle.text.proofs.digits.digit_in.Goals as goal
 

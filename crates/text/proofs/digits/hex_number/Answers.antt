@@ -1,6 +1,5 @@
 -- The number of digits decides, as in `hex_of`.
 use mathlib.Core.Path.{sym, ◌∙◌}
-use borrow.Author.Rules.{rules}
 use Rattle.text.proofs.Numbers.{hex_counted, hex_empty, hex_long}
 use Rattle.text.proofs.digits.hex_number.Goals as goal
 

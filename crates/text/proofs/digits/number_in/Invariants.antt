@@ -1,12 +1,8 @@
 -- The loop keeps the number read so far and what is left: together they give the whole. A digit is added where the test leaves room for it.
-use Prim.Native.Nat.{◌-◌, ◌+◌, ◌*◌, ◌^◌, ◌≤◌, ◌<◌}
-use mathlib.Core.Path.{◌≡◌, refl, sym, ◌∙◌}
-use native.Mathlib.Omega.{arith}
-use borrow.Author.Rules.{rules}
-use lib.ListN.{length, drop, get_or}
-use Rattle.text.specs.declared.Digit.TheVariants as digit
-use Rattle.text.specs.Digits.{digit_in, number_from}
-use Rattle.text.proofs.Numbers.{digit_small, number_ends, number_stops, number_large, number_more, no_room, room}
+use Prim.Native.Nat.{◌-◌, ◌≤◌}
+use mathlib.Core.Path.{◌≡◌}
+use lib.ListN.{length, drop}
+use Rattle.text.specs.Digits.{number_from}
 use Rattle.text.proofs.digits.number_in.Given as goal
 
 abbrev pub invariant-loop-i : goal.invariant-loop-i

@@ -1,11 +1,8 @@
 -- The loop keeps that the word sought is word `left` of the rest of the list.
 use Prim.Native.Nat.{◌≤◌}
-use mathlib.Core.Path.{◌≡◌, refl, sym, ◌∙◌}
-use native.Mathlib.Omega.{arith}
-use borrow.Author.Rules.{rules}
+use mathlib.Core.Path.{◌≡◌}
 use lib.ListN.{length}
 use Rattle.text.specs.Words.{words_of, nth_of}
-use Rattle.text.proofs.Lists.{nth_found, nth_missing, nth_next}
 use Rattle.text.proofs.words.nth_word.Given as goal
 
 abbrev pub invariant-loop-left : goal.invariant-loop-left

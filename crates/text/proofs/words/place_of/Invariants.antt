@@ -1,11 +1,8 @@
 -- The loop keeps that the first b is `i` places before the first b of what is left.
 use Prim.Native.Nat.{◌+◌, ◌-◌, ◌≤◌}
-use mathlib.Core.Path.{◌≡◌, sym}
-use borrow.Author.Rules.{rules}
+use mathlib.Core.Path.{◌≡◌}
 use lib.ListN.{length, drop}
-use lib.Seq.{length-take-le}
 use Rattle.text.specs.Words.{place_of}
-use Rattle.text.proofs.Places.{place_here, place_later, place_none}
 use Rattle.text.proofs.words.place_of.Given as goal
 
 abbrev pub invariant-loop-i : goal.invariant-loop-i

@@ -1,10 +1,9 @@
 -- The loop keeps that what is left of both words is the same exactly when the words are.
-use Prim.Native.Nat.{◌-◌, ◌≤◌, ◌<◌}
-use mathlib.Core.Path.{◌≡◌, refl, sym, ◌∙◌}
+use Prim.Native.Nat.{◌≤◌, ◌<◌}
+use mathlib.Core.Path.{sym, ◌∙◌}
 use native.Mathlib.Omega.{arith}
 use borrow.Author.Rules.{rules}
-use lib.ListN.{length, drop}
-use Rattle.text.specs.Words.{same_bytes}
+use lib.ListN.{length}
 use Rattle.text.proofs.Sameness.{lengths_differ_lem, same_ends, same_differs, same_more}
 use Rattle.text.proofs.words.same.Goals as goal
 

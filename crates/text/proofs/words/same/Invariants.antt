@@ -1,11 +1,8 @@
 -- The loop keeps that what is left of both words is the same exactly when the words are.
-use Prim.Native.Nat.{◌-◌, ◌≤◌, ◌<◌}
-use mathlib.Core.Path.{◌≡◌, refl, sym, ◌∙◌}
-use native.Mathlib.Omega.{arith}
-use borrow.Author.Rules.{rules}
+use Prim.Native.Nat.{◌-◌, ◌≤◌}
+use mathlib.Core.Path.{◌≡◌}
 use lib.ListN.{length, drop}
 use Rattle.text.specs.Words.{same_bytes}
-use Rattle.text.proofs.Sameness.{lengths_differ_lem, same_ends, same_differs, same_more}
 use Rattle.text.proofs.words.same.Given as goal
 
 abbrev pub invariant-loop-i : goal.invariant-loop-i

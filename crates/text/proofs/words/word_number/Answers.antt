@@ -1,25 +1,19 @@
 -- The loop keeps that `n` words are passed and the rest of the list gives the rest of the number.
-use Prim.Native.Nat.{◌+◌, ◌≤◌}
-use mathlib.Core.Path.{◌≡◌, sym}
-use native.Mathlib.Nat.{zero-add}
-use native.Mathlib.Omega.{arith}
 use borrow.Author.Rules.{rules}
-use lib.ListN.{length}
-use Rattle.text.specs.Words.{words_of, number_among}
 use Rattle.text.proofs.Lists.{among_found, among_missing, among_next}
 use Rattle.text.proofs.words.word_number.Goals as goal
 
 pub returns-then-same : goal.returns-then-same
 returns-then-same c =
-    among_found _ _ _ _ _ c.loop-rest.invariant.0 c.place_of-end.ensures.0 c.same.ensures c.if-same.true
+    among_found _ _ _ _ _ c.loop-rest.invariant.0 c.place_of-end.ensures.place c.same.ensures c.if-same.true
 
 pub returns-then-end-rest : goal.returns-then-end-rest
 returns-then-end-rest c =
-    among_missing _ _ _ _ _ c.loop-rest.invariant.0 c.place_of-end.ensures.0 c.same.ensures
+    among_missing _ _ _ _ _ c.loop-rest.invariant.0 c.place_of-end.ensures.place c.same.ensures
     c.if-end-rest.true c.if-same.false
 
 pub loop-rest-preserved : goal.loop-rest-preserved
 loop-rest-preserved c =
-    let next = among_next _ _ _ _ _ c.loop-rest.invariant.0 c.place_of-end.ensures.0
-    c.same.ensures c.place_of-end.ensures.1.0 c.if-end-rest.false c.if-same.false in
+    let next = among_next _ _ _ _ _ c.loop-rest.invariant.0 c.place_of-end.ensures.place
+    c.same.ensures c.place_of-end.ensures.in_bounds c.if-end-rest.false c.if-same.false in
     (next, search rules)

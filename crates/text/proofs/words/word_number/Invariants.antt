@@ -1,12 +1,8 @@
 -- The loop keeps that `n` words are passed and the rest of the list gives the rest of the number.
 use Prim.Native.Nat.{◌+◌, ◌≤◌}
-use mathlib.Core.Path.{◌≡◌, sym}
-use native.Mathlib.Nat.{zero-add}
-use native.Mathlib.Omega.{arith}
-use borrow.Author.Rules.{rules}
+use mathlib.Core.Path.{◌≡◌}
 use lib.ListN.{length}
 use Rattle.text.specs.Words.{words_of, number_among}
-use Rattle.text.proofs.Lists.{among_found, among_missing, among_next}
 use Rattle.text.proofs.words.word_number.Given as goal
 
 abbrev pub invariant-loop-rest : goal.invariant-loop-rest
