@@ -1,5 +1,7 @@
 // The clamp of a row that the caller lends, in place: refused whole, with the lowest index deciding, or done whole
 // (docs/RULES.md: Choosing and clamping).
+#![tactic(auto)]
+
 ghost use Rattle.std.specs.Prelude.{◌≡◌, map, ◌+◌, ◌≤◌, length, drop};
 ghost use Rattle.row.specs.Row.{rowed_outcome, first, any};
 ghost use Rattle.rowclamp.specs.Clamp.{clamp_answer, clamp_exit};
