@@ -1,6 +1,8 @@
 // What is seen of samples in bytes, block after block: what a program with files asks of each block that it has read. Nothing here reads
 // a file, and nothing is converted. What was seen goes on with the next block, so that what all blocks show is what the whole input shows
 // (docs/RULES.md: Report).
+#![tactic(auto)]
+
 mod looks;
 
 pub use looks::look_block;

@@ -7,7 +7,7 @@ pub returns-then-at-row : goal.returns-then-at-row
 returns-then-at-row c =
     let both =
     clamp_row_refused c.args.range (search rules) (search rules) c.if-lower-upper.true
-    c.args.row.now (λ i h. c.type_inv.row i)
+    c.args.row.now (λ i h. search rules)
     c.first_nan-at.result c.first_nan-at.ensures c.if-at-row.true in
     record { answer = both.0; exit = both.1 }
 
@@ -15,7 +15,7 @@ pub returns-else-at-row : goal.returns-else-at-row
 returns-else-at-row c =
     let both =
     clamp_row_done c.args.range (search rules) (search rules) c.if-lower-upper.true
-    c.args.row.now (λ i h. c.type_inv.row i)
+    c.args.row.now (λ i h. search rules)
     c.first_nan-at.result c.first_nan-at.ensures _ c.if-at-row.false c.clamp_all.ensures in
     record { answer = both.0; exit = both.1 }
 
