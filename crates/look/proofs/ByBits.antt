@@ -1,8 +1,6 @@
 -- An infinity is told by abs alone, minus zero by its one pattern.
 use Rattle.std.proofs.Common.{◌≡◌, ℕ, ◌+◌, ◌-◌, ◌<◌, ◌≤◌, Bool, true, false, ◌||◌, T, eqb, [], ℤ, pos, negsuc, sym, refl, ap, ◌∙◌, inl, inr, arith, eq-eqb, ne_eqb}
 use lib.Ieee.{binary32, binary64}
-use types.Run.{OneOf}
-use denote.Enum.Declared.{tag_of}
 use Rattle.float.specs.Format.{Format, f16, f32, f64, fraction_of, exponent_of, sign_of, inf_of, abs_of, infinite_of, inf_in, infinite_in, sign_in}
 use Rattle.float.specs.Number as exact
 use Rattle.float.specs.Order.{pattern_of}
@@ -12,10 +10,10 @@ use Rattle.float.proofs.Formats.{inf_range}
 use Rattle.float.proofs.Comparing.{pattern_nan, pattern_infinite, pattern_finite}
 use Rattle.value.specs.declared.Value.{Value}
 use Rattle.value.specs.declared.Value.TheVariants.{U8, U16, U32, U64, I8, I16, I32, I64, F32, F64, F16}
-use Rattle.value.specs.Kinds.{kind_of, all_kinds, Form, unsigned, signed, floating, form_of, is_integer}
+use Rattle.value.specs.declared.Kind.TheVariants as kind
+use Rattle.value.specs.Kinds.{kind_of, Form, unsigned, signed, floating, form_of, is_integer}
 use Rattle.value.specs.Meaning.{real, bits_of, float_bits, exact_in, unit, step_of, whole_of}
-use Rattle.value.specs.contracts.Value.{the_type}
-use Rattle.cmp.proofs.KindTests.{keys_in, by_keys}
+use Rattle.cmp.proofs.KindTests.{NotOf, whole_left}
 use Rattle.convert.specs.Convert.{is_infinite, is_minus_zero}
 use Rattle.convert.proofs.MinusZero.{integer_signless, minus_zero_float}
 use Rattle.row.specs.Row.{any}
@@ -101,9 +99,9 @@ no_bits (unsigned n) t = (refl, refl)
 no_bits (signed n) t = (refl, refl)
 no_bits (floating f) t = absurd t
 
-module _ (v : Value) (o : OneOf (keys_in (λ k. is_integer (form_of k)) all_kinds) (tag_of the_type v)) where
+module _ (v : Value) (f : NotOf kind.F32 v) (g : NotOf kind.F64 v) (h : NotOf kind.F16 v) where
   none : (infinities_in (form_of (kind_of v)) ≡ []) × (minus_zeros_in (form_of (kind_of v)) ≡ [])
-  none = no_bits (form_of (kind_of v)) (by_keys (λ k. is_integer (form_of k)) v o)
+  none = no_bits (form_of (kind_of v)) (whole_left v f g h)
 
   pub infinite_integer : false ≡ infinite v
   unfolding any

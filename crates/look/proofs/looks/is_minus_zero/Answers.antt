@@ -17,4 +17,4 @@ pub returns-in-F16 : goal.returns-in-F16
 returns-in-F16 c = minus_zero_told f16 refl ∙ sym (ap minus_zero c.in-F16.is)
 
 pub returns-in_default : goal.returns-in_default
-returns-in_default c = minus_zero_integer c.args.v c.in-F32.keys4
+returns-in_default c = minus_zero_integer c.args.v c.in_default.not-F32 c.in_default.not-F64 c.in_default.not-F16
