@@ -8,7 +8,7 @@ use native.Mathlib.Numerals.{add-one}
 use native.Mathlib.Omega.{arith}
 use borrow.Author.Tests.{lt-ltb, le-ltb}
 use lib.Dec.{ltb}
-use lib.ListN.{length, take, drop, get_or, length-append, length-map, take-append-drop, drop_of_length-le}
+use lib.ListN.{length, take, drop, get_or, length-append, take-append-drop, drop_of_length-le}
 use lib.Seq.{take-suc, take_all, drop-cons, get_or-take, length-take-le}
 use Rattle.float.specs.Number.{is_none}
 use Rattle.value.specs.declared.Kind.{Kind}
@@ -20,7 +20,6 @@ use Rattle.value.specs.Rules.{chain, each_of}
 use Rattle.record.specs.declared.Field.{Field}
 use Rattle.record.specs.declared.Record.{Record}
 use Rattle.record.specs.Record.{fields_of, bad_count}
-use Rattle.record.specs.contracts.Record as record-type
 use Rattle.key.specs.declared.Written.{Written}
 use Rattle.key.specs.declared.Written.TheVariants as written
 use Rattle.bytewise.specs.Numbers.{big_endian}
@@ -28,11 +27,6 @@ use Rattle.key.specs.Key.{key_number, field_key, key_of, nan_rules, written_outc
 use Rattle.key.specs.Inner.{put, FirstNan}
 use Rattle.bytewise.proofs.BigEndian.{length_big}
 use Rattle.key.proofs.NumberBytes.{length_put, put_nil, put_put}
-
--- ---- the fields that count
-
-pub twelve_fields : (r : Record) → length ((record-type.the_type).to r).0 ≡ 12 → length r.fields ≡ 12
-twelve_fields r h = simp length-map at h
 
 -- ---- the keys of the first fields
 

@@ -1,4 +1,6 @@
 // Keys: byte strings that order as their records do (docs/KEYS.md, docs/RULES.md: Keys).
+#![tactic(auto)]
+
 mod numbers;
 mod reading;
 mod writing;
