@@ -65,8 +65,8 @@ module _ (p e b : ℕ) where
 
 -- ---- two samples
 
-from_lowest : (b : ℕ) → from_lowest (2 ^ 31) (position_of 23 8 b) ≡ shifted_of b
-from_lowest b = elim (lt_or_ge b (2 ^ 31)) [
+from_lowest_lem : (b : ℕ) → from_lowest (2 ^ 31) (position_of 23 8 b) ≡ shifted_of b
+from_lowest_lem b = elim (lt_or_ge b (2 ^ 31)) [
   | inl l ↦ lowest_clear 23 8 b l ∙ rw (lt-ltb b (2 ^ 31) l) (omega arith)
   | inr g ↦ lowest_set 23 8 b g ∙ rw (le-ltb b (2 ^ 31) g) refl
 ]
@@ -74,4 +74,4 @@ from_lowest b = elim (lt_or_ge b (2 ^ 31)) [
 pub samples_apart : (a b : ℕ) → a < 2 ^ 32 → b < 2 ^ 32 → gap (shifted_of a) (shifted_of b) ≡ distance (record { left = a; right = b })
 samples_apart a b h k =
     sym (apart_from_lowest (2 ^ 31) (position_of 23 8 a) (position_of 23 8 b) (position_fits 23 8 a h) (position_fits 23 8 b k)
-    ∙ rw (from_lowest a, from_lowest b) refl)
+    ∙ rw (from_lowest_lem a, from_lowest_lem b) refl)

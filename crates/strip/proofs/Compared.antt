@@ -1,5 +1,5 @@
 -- Two blocks behind what was seen before them: the places that both have are those that were gone over.
-use Rattle.std.proofs.Common.{◌≡◌, ℕ, ◌+◌, min, max, List, sym}
+use Rattle.std.proofs.Common.{◌≡◌, ℕ, ◌+◌, min, max, List}
 use Rattle.row.specs.Row.{how_many}
 use Rattle.sample.specs.Samples.{counted}
 use Rattle.sample.proofs.Samplings.{length_numbers}

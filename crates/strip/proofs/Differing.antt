@@ -1,10 +1,10 @@
 -- The loops over the places of two blocks, one place after the other: how many differ, the largest distance, and the first that differs.
-use Rattle.std.proofs.Common.{◌≡◌, ℕ, zero, suc, ◌+◌, ◌*◌, ◌<◌, ◌≤◌, max, Bool, true, false, cond, not, eqb, List, [], ◌∷◌, length, get_or, take, drop, sym, refl, ap, ◌∙◌, zero-add, add-one, arith, eq-eqb, ne_eqb}
+use Rattle.std.proofs.Common.{◌≡◌, ℕ, ◌+◌, ◌*◌, ◌<◌, ◌≤◌, max, Bool, true, false, cond, not, eqb, List, length, get_or, take, drop, refl, ap, ◌∙◌, add-one, arith, eq-eqb, ne_eqb}
 use Rattle.bytewise.specs.Numbers.{from_little_endian}
 use Rattle.row.specs.Row.{first, how_many}
 use Rattle.row.proofs.HowMany.{many_few, many_last}
 use Rattle.row.proofs.Scan.{Reached, reach_step, reach_stop, reach_end, reach_start}
-use Rattle.strip.specs.Difference.{Pair, is_different, distance, widest_of}
+use Rattle.strip.specs.Difference.{is_different, distance, widest_of}
 use Rattle.strip.specs.Inner.{pairs_in}
 use Rattle.strip.proofs.Pairs.{pair_at, no_pairs, length_pairs, pairs_last, pair_here, widest_last}
 

@@ -72,27 +72,28 @@ unfolding farthest_from
 farthest_last test end m [] b q = rw q refl
 farthest_last test end m (x ∷ bs) b q = farthest_last test end (cond (test (place_of end x) m) (place_of end x) m) bs b q
 
--- a loop over n samples after i of them; start and m are the machine's words
-pub record SoFar (test : ℤ → ℤ → Bool) (end : ℤ) (start : ℕ) (src : List ℕ) (n m i : ℕ) : Type 0 where
+-- a loop over n samples after i of them
+pub record SoFar (test : ℤ → ℤ → Bool) (end start : ℤ) (src : List ℕ) (n : ℕ) (m : ℤ) (i : ℕ) : Type 0 where
   pub within : i ≤ n
-  far : to_z w32 m ≡ farthest_from test end (to_z w32 start) (numbers_in 4 i src)
+  far : m ≡ farthest_from test end start (numbers_in 4 i src)
 
-module _ {test : ℤ → ℤ → Bool} {end : ℤ} {src : List ℕ} {n m i : ℕ} where
-  pub so_far_next : {start b : ℕ} {place r : ℤ} → SoFar test end start src n m i → i < n
+module _ {test : ℤ → ℤ → Bool} {end start : ℤ} {src : List ℕ} {n i : ℕ} {m : ℤ} where
+  -- the machine reads each signed number back from its word
+  pub so_far_next : {b : ℕ} {place r : ℤ} → SoFar test end start src n m i → i < n
       → b ≡ from_little_endian (take 4 (drop (i * 4) src)) → place ≡ place_of end b → SFits w32 place → SFits w32 r
-      → r ≡ (let z = to_z w32 (of_z w32 place) in cond (test z (to_z w32 m)) z (to_z w32 m))
-      → SoFar test end start src n (of_z w32 r) (i + 1)
-  so_far_next {start} {place} {r} s h word at f g q = record {
+      → r ≡ (let z = to_z w32 (of_z w32 place) in cond (test z m) z m)
+      → SoFar test end start src n (to_z w32 (of_z w32 r)) (i + 1)
+  so_far_next {b} {place} {r} s h word at f g q = record {
     within = omega arith;
     far = rw (to_z-of_z w32 r g, q, to_z-of_z w32 place f, at, word, add-one i, numbers_last 4 i src)
-        (farthest_last test end (to_z w32 start) (numbers_in 4 i src) _ s.far);
+        (farthest_last test end start (numbers_in 4 i src) _ s.far);
   }
 
-  pub so_far_all : {start : ℤ} → SFits w32 start → SoFar test end (of_z w32 start) src n m i → n ≤ i
-      → to_z w32 m ≡ farthest_from test end start (numbers_in 4 n src)
-  so_far_all {start} f s h = rw (to_z-of_z w32 start f, le_antisymm s.within h) at s.far
+  pub so_far_all : SFits w32 start → SoFar test end (to_z w32 (of_z w32 start)) src n m i → n ≤ i
+      → m ≡ farthest_from test end start (numbers_in 4 n src)
+  so_far_all f s h = rw (to_z-of_z w32 start f, le_antisymm s.within h) at s.far
 
-pub so_far_start : {test : ℤ → ℤ → Bool} {end : ℤ} {start : ℕ} {src : List ℕ} {n : ℕ} → SoFar test end start src n start 0
+pub so_far_start : {test : ℤ → ℤ → Bool} {end start : ℤ} {src : List ℕ} {n : ℕ} → SoFar test end start src n start 0
 unfolding farthest_from numbers_in
 so_far_start = record { within = omega arith; far = refl }
 

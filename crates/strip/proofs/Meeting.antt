@@ -1,15 +1,12 @@
 -- Two blocks behind others in step are compared as both joined: the places they share follow those before, and every count goes on.
-use Rattle.std.proofs.Common.{◌≡◌, ℕ, ◌+◌, ◌/◌, ◌^◌, ◌≤◌, min, max, List, [], ◌∷◌, ◌++◌, length, sym, refl, ap, ◌∙◌, inl, inr, append-nil, add-zero, add_assoc, arith, length-append}
-use native.Mathlib.Nat.{mod-add-mod}
-use Rattle.value.specs.declared.Kind.TheVariants.{F32}
+use Rattle.std.proofs.Common.{◌≡◌, ℕ, ◌+◌, ◌≤◌, max, List, [], ◌++◌, length, sym, refl, ap, ◌∙◌, append-nil, add_assoc, arith, length-append}
 use Rattle.row.specs.Row.{first, how_many}
-use Rattle.row.proofs.HowMany.{many_joined}
-use Rattle.sample.specs.Samples.{numbers_in, left_of, counted}
+use Rattle.sample.specs.Samples.{numbers_in}
 use Rattle.sample.proofs.Samplings.{length_numbers}
 use Rattle.strip.specs.declared.Index.{Index}
 use Rattle.strip.specs.declared.Difference.{Difference}
-use Rattle.strip.specs.Sheet.{most, taken_of, taken_in}
-use Rattle.strip.specs.Difference.{Pair, is_different, shared, widest_of, first_in, earlier_of, difference_after}
+use Rattle.strip.specs.Sheet.{taken_of, taken_in}
+use Rattle.strip.specs.Difference.{is_different, shared, widest_of, first_in, earlier_of, difference_after}
 use Rattle.strip.specs.DifferenceTheorem.{unseen, InStep, both, left_ended, right_ended, Seen, nothing, more}
 use Rattle.strip.proofs.Blocks.{taken_joined, counted_joined}
 use Rattle.strip.proofs.Pairs.{shared_count, shared_joined, shared_left_ends, shared_right_ends, none_shared, widest_joined}

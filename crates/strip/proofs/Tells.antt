@@ -1,16 +1,15 @@
 -- All blocks are seen as one, so what is told of two masters is told of the whole of both behind nothing. No count wraps, for none is above `most`.
-use Rattle.std.proofs.Common.{◌≡◌, ℕ, zero, suc, ◌+◌, ◌/◌, ◌<◌, ◌≤◌, min, max, Bool, true, false, not, eqb, ◌⊎◌, List, length, ℤ, pos, negsuc, ◌+ℤ◌, ◌-ℤ◌, neg_ℤ, nat_abs, sym, refl, ap, ◌∙◌, inl, inr, mod-eq_of_lt, zero-add, arith, eq-eqb, eqb-true}
+use Rattle.std.proofs.Common.{◌≡◌, ℕ, suc, ◌+◌, ◌/◌, ◌≤◌, min, max, not, ◌⊎◌, List, length, ℤ, pos, negsuc, ◌+ℤ◌, ◌-ℤ◌, nat_abs, sym, refl, ap, ◌∙◌, inl, inr, mod-eq_of_lt, zero-add, arith, eq-eqb, eqb-true}
 use borrow.Author.Tests.{not-false}
-use lib.IntN.{+ℤ_comm, +ℤ_assoc, -ℤ-+ℤ_cancel, +ℤ-neg_ℤ_cancel}
+use lib.IntN.{+ℤ_comm, -ℤ-+ℤ_cancel}
 use Rattle.float.specs.Format.{position_of}
 use Rattle.row.specs.Row.{how_many}
 use Rattle.row.proofs.HowMany.{many_few}
 use Rattle.sample.specs.Samples.{counted}
 use Rattle.sample.proofs.Samplings.{length_numbers}
-use Rattle.strip.specs.declared.Difference.{Difference}
 use Rattle.strip.specs.Sheet.{most}
 use Rattle.strip.specs.SheetTheorem.{strip_of}
-use Rattle.strip.specs.Difference.{Pair, is_different, distance, shared, widest_of, first_in, difference_after}
+use Rattle.strip.specs.Difference.{Pair, is_different, shared, widest_of, difference_after}
 use Rattle.strip.specs.DifferenceTheorem.{Places, DifferenceTells, unseen, DifferencesTell}
 use Rattle.strip.proofs.Pairs.{shared_count, shared_place}
 use Rattle.strip.proofs.Firsts.{first_different}

@@ -1,5 +1,7 @@
 // What a sheet tells of a strip of f32 samples in bytes, and where two masters differ, block after block. Nothing here reads a file. What was
 // told goes on with the next block, so that what all blocks tell is what the whole input has (docs/RULES.md: Strip sheet, Two masters).
+#![tactic(auto)]
+
 mod differences;
 mod samples;
 mod tallies;
