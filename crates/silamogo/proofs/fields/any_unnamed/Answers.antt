@@ -1,0 +1,19 @@
+-- Numbers that name kinds are passed; those that are left decide.
+use mathlib.Core.Path.{refl}
+use Prim.Native.Nat.{◌-◌}
+use native.Mathlib.Omega.{arith}
+use lib.ListN.{length}
+use borrow.Author.Rules.{rules}
+use Rattle.silamogo.proofs.Pairs.{Named, named_stop, named_step, named_end}
+use Rattle.silamogo.proofs.fields.any_unnamed.Goals as goal
+
+pub returns-then-unnamed : goal.returns-then-unnamed
+returns-then-unnamed c =
+    named_stop _ c.loop-at.at c.loop-at.invariant c.loop-at-test.true c.unnamed.ensures c.if-unnamed.true
+
+pub loop-at-preserved : goal.loop-at-preserved
+loop-at-preserved c =
+    named_step _ c.loop-at.at c.loop-at.invariant c.loop-at-test.true c.unnamed.ensures c.if-unnamed.false
+
+pub returns : goal.returns
+returns c = named_end _ c.loop-at.at c.loop-at.invariant c.loop-at-test.false

@@ -1,0 +1,12 @@
+-- Fields with bits of their kinds are passed; those that are left decide.
+use Prim.Native.Nat.{◌-◌}
+use lib.ListN.{length}
+use borrow.Author.Rules.{rules}
+use Rattle.silamogo.proofs.Pairs.{Fitting, fitting_start, fitting_stop, fitting_step, fitting_end}
+use Rattle.silamogo.proofs.fields.first_wide.Given as goal
+
+abbrev pub invariant-loop-at : goal.invariant-loop-at
+invariant-loop-at l = Fitting l.kinds l.bits l.at
+
+abbrev pub decreases-loop-at : goal.decreases-loop-at
+decreases-loop-at l = length l.kinds - l.at
