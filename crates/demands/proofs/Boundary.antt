@@ -6,6 +6,7 @@ use mathlib.Core.Path.{◌≡◌, refl, sym, ap}
 use mathlib.Core.Bool.{true, false, true≢false}
 use mathlib.Core.List.{List, [], ◌∷◌, ◌++◌}
 use lib.ListN.{length}
+use lib.Ieee.{Float}
 use borrow.Author.Tests.{leb-true, le-leb}
 use Rattle.value.specs.declared.Kind.{Kind}
 use Rattle.value.specs.declared.Kind.TheVariants as kind
@@ -20,7 +21,7 @@ use Rattle.value.proofs.Rules.{by_chain, by_same}
 use Rattle.cmp.specs.Compare as cmp
 use Rattle.cmp.specs.Compare.{value_rules}
 use Rattle.choose.specs.Choose as choose
-use Rattle.choose.specs.Choose.{choice_rules, clamp_rules}
+use Rattle.choose.specs.Choose.{choice_rules, clamp_rules, unordered, sample_order}
 use Rattle.convert.specs.Convert as convert
 use Rattle.convert.specs.Convert.{convert_rules, converted_to}
 use Rattle.key.specs.Key.{write_rules, write_of, key_numbers, read_rules, read_of}
@@ -129,11 +130,11 @@ all_numbered = record {
   write_key = λ ns bs room. numbered_by (by_boundary_rules.write_key ns bs room) (nan_absent 0 refl 0 (fields_of (record_for (paired_samples ns bs))));
   read_key = λ ns key room. numbered_mapped (λ r. done) (record_read ns key room)
       (numbered_by (by_boundary_rules.read_key ns key room) (canonical_absent 0 refl 0 (key_numbers (kinds_in (shape_for ns)) key)));
-  row_clamp = λ lower upper row. numbered_by (by_its_rules.row_clamp (bounds_of lower upper) row) (each_absent 0 _ (λ x. refl) 0 row);
-  u8_to_u16_lem = λ src dst. numbered_by (by_its_rules.u8_to_u16_lem src dst) (each_absent 0 _ (λ n. convert_no_zero (U8 n) kind.U16) 0 src);
-  u16_to_u8_lem = λ src dst. numbered_by (by_its_rules.u16_to_u8_lem src dst) (each_absent 0 _ (λ n. convert_no_zero (U16 n) kind.U8) 0 src);
-  u16_to_f32_lem = λ src dst. numbered_by (by_its_rules.u16_to_f32_lem src dst) (each_absent 0 _ (λ n. convert_no_zero (U16 n) kind.F32) 0 src);
-  f32_to_u16_lem = λ src dst. numbered_by (by_its_rules.f32_to_u16_lem src dst) (each_absent 0 _ (λ x. convert_no_zero (F32 x 0) kind.U16) 0 src);
+  row_clamp = λ lower upper row. numbered_by (by_its_rules.row_clamp (bounds_of lower upper) row) (each_absent 0 (λ (x : Float). unordered 0 (sample_order x (bounds_of lower upper).lower) ∷ []) (λ x. refl) 0 row);
+  u8_to_u16_lem = λ src dst. numbered_by (by_its_rules.u8_to_u16_lem src dst) (each_absent 0 (λ (n : ℕ). convert_rules (U8 n) kind.U16) (λ n. convert_no_zero (U8 n) kind.U16) 0 src);
+  u16_to_u8_lem = λ src dst. numbered_by (by_its_rules.u16_to_u8_lem src dst) (each_absent 0 (λ (n : ℕ). convert_rules (U16 n) kind.U8) (λ n. convert_no_zero (U16 n) kind.U8) 0 src);
+  u16_to_f32_lem = λ src dst. numbered_by (by_its_rules.u16_to_f32_lem src dst) (each_absent 0 (λ (n : ℕ). convert_rules (U16 n) kind.F32) (λ n. convert_no_zero (U16 n) kind.F32) 0 src);
+  f32_to_u16_lem = λ src dst. numbered_by (by_its_rules.f32_to_u16_lem src dst) (each_absent 0 (λ (x : Float). convert_rules (F32 x 0) kind.U16) (λ x. convert_no_zero (F32 x 0) kind.U16) 0 src);
 }
 
 nothing_lost : NothingLost
