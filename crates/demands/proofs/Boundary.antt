@@ -21,7 +21,8 @@ use Rattle.value.proofs.Rules.{by_chain, by_same}
 use Rattle.cmp.specs.Compare as cmp
 use Rattle.cmp.specs.Compare.{value_rules}
 use Rattle.choose.specs.Choose as choose
-use Rattle.choose.specs.Choose.{choice_rules, clamp_rules, unordered, sample_order}
+use Rattle.choose.specs.Choose.{choice_rules, clamp_rules, sample_order}
+use Rattle.cmp.specs.ByOrder.{unordered}
 use Rattle.convert.specs.Convert as convert
 use Rattle.convert.specs.Convert.{convert_rules, converted_to}
 use Rattle.key.specs.Key.{write_rules, write_of, key_numbers, read_rules, read_of}
