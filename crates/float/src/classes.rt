@@ -5,6 +5,7 @@ ghost use Rattle.float.specs.Format.{f16, f32, f64, class_in};
 use crate::Class;
 use crate::bits::{abs_f16, abs_f32, abs_f64};
 
+#[tactic(auto, unfolding(crate::specs::Format::class_of))]
 pub fn class_f16(bits: u16) -> Class
     ensures { result ≡ class_in f16 bits }
 {
@@ -22,6 +23,7 @@ pub fn class_f16(bits: u16) -> Class
     }
 }
 
+#[tactic(auto, unfolding(crate::specs::Format::class_of))]
 pub fn class_f32(bits: u32) -> Class
     ensures { result ≡ class_in f32 bits }
 {
@@ -39,6 +41,7 @@ pub fn class_f32(bits: u32) -> Class
     }
 }
 
+#[tactic(auto, unfolding(crate::specs::Format::class_of))]
 pub fn class_f64(bits: u64) -> Class
     ensures { result ≡ class_in f64 bits }
 {

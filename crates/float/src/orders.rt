@@ -54,6 +54,7 @@ fn signed_f64(bits: u64) -> i64
     if bits < 0x8000_0000_0000_0000 { x } else { -x }
 }
 
+#[tactic(auto, using(crate::proofs::Comparing::compare_nan_left, crate::proofs::Comparing::compare_nan_right))]
 pub fn compare_f16(a: u16, b: u16) -> Order
     ensures { result ≡ compare_in f16 a b }
 {
@@ -66,6 +67,7 @@ pub fn compare_f16(a: u16, b: u16) -> Order
     order_i64(signed_f16(a), signed_f16(b))
 }
 
+#[tactic(auto, using(crate::proofs::Comparing::compare_nan_left, crate::proofs::Comparing::compare_nan_right))]
 pub fn compare_f32(a: u32, b: u32) -> Order
     ensures { result ≡ compare_in f32 a b }
 {
@@ -78,6 +80,7 @@ pub fn compare_f32(a: u32, b: u32) -> Order
     order_i64(signed_f32(a), signed_f32(b))
 }
 
+#[tactic(auto, using(crate::proofs::Comparing::compare_nan_left, crate::proofs::Comparing::compare_nan_right))]
 pub fn compare_f64(a: u64, b: u64) -> Order
     ensures { result ≡ compare_in f64 a b }
 {

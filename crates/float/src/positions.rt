@@ -5,6 +5,7 @@ ghost use Rattle.float.specs.Format.{f16, f32, f64, position_in};
 
 use crate::bits::{abs_f16, abs_f32, abs_f64};
 
+#[tactic(auto, using(crate::proofs::Place::clear_f16, crate::proofs::Place::set_f16, crate::proofs::Place::down_f16))]
 pub fn position_f16(bits: u16) -> i16
     ensures { result ≡ position_in f16 bits }
 {
@@ -12,6 +13,7 @@ pub fn position_f16(bits: u16) -> i16
     if bits < 0x8000 { x } else { -x - 1 }
 }
 
+#[tactic(auto, using(crate::proofs::Place::clear_f32, crate::proofs::Place::set_f32, crate::proofs::Place::down_f32))]
 pub fn position_f32(bits: u32) -> i32
     ensures { result ≡ position_in f32 bits }
 {
@@ -19,6 +21,7 @@ pub fn position_f32(bits: u32) -> i32
     if bits < 0x8000_0000 { x } else { -x - 1 }
 }
 
+#[tactic(auto, using(crate::proofs::Place::clear_f64, crate::proofs::Place::set_f64, crate::proofs::Place::down_f64))]
 pub fn position_f64(bits: u64) -> i64
     ensures { result ≡ position_in f64 bits }
 {

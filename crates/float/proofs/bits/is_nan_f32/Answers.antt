@@ -1,7 +1,6 @@
 -- The test is the definition's, at the abs that the call gave.
 use mathlib.Core.Path.{ap}
 use Prim.Native.Nat.{ℕ}
-use borrow.Author.Rules.{rules}
 use lib.Dec.{ltb}
 use Rattle.float.proofs.bits.is_nan_f32.Goals as goal
 

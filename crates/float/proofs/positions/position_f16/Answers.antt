@@ -1,12 +1,9 @@
 -- abs is below 2 ^ 15, so neither the negation nor the difference leaves the width.
-use mathlib.Core.Path.{◌∙◌}
 use Prim.Native.Nat.{◌<◌, ◌^◌}
 use borrow.Author.Rules.{rules}
 use mir.Syntax.{w16}
-use mir.ValLaws.{to_z_pos}
 use Rattle.float.proofs.Magnitude.{abs_fits}
-use Rattle.float.proofs.Machine.{neg_fits, down_fits, down_back}
-use Rattle.float.proofs.Place.{position_clear, position_set}
+use Rattle.float.proofs.Machine.{neg_fits}
 use Rattle.float.proofs.positions.position_f16.Goals as goal
 use Rattle.float.proofs.positions.position_f16.Goals.{After-abs_f16-x}
 
@@ -18,12 +15,3 @@ overflow_cast-x c = record { sfits = below c }
 
 pub overflow_sub-result : goal.overflow_sub-result
 overflow_sub-result c = neg_fits w16 _ (below ((goal.at.overflow_sub-result c).After-abs_f16-x))
-
-pub overflow_sub-result-else-bits-lt32768 : goal.overflow_sub-result-else-bits-lt32768
-overflow_sub-result-else-bits-lt32768 c = down_fits w16 _ (below ((goal.at.overflow_sub-result-else-bits-lt32768 c).After-abs_f16-x))
-
-pub returns-then-bits-lt32768 : goal.returns-then-bits-lt32768
-returns-then-bits-lt32768 c = to_z_pos w16 _ (below ((goal.at.returns-then-bits-lt32768 c).After-abs_f16-x)) ∙ position_clear 10 5 _ c.abs_f16-x.ensures c.if-bits-lt32768.true
-
-pub returns-else-bits-lt32768 : goal.returns-else-bits-lt32768
-returns-else-bits-lt32768 c = down_back w16 _ (below ((goal.at.returns-else-bits-lt32768 c).After-abs_f16-x)) ∙ position_set 10 5 _ c.abs_f16-x.ensures c.if-bits-lt32768.false

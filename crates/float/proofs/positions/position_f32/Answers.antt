@@ -1,12 +1,9 @@
 -- abs is below 2 ^ 31, so neither the negation nor the difference leaves the width.
-use mathlib.Core.Path.{◌∙◌}
 use Prim.Native.Nat.{◌<◌, ◌^◌}
 use borrow.Author.Rules.{rules}
 use mir.Syntax.{w32}
-use mir.ValLaws.{to_z_pos}
 use Rattle.float.proofs.Magnitude.{abs_fits}
-use Rattle.float.proofs.Machine.{neg_fits, down_fits, down_back}
-use Rattle.float.proofs.Place.{position_clear, position_set}
+use Rattle.float.proofs.Machine.{neg_fits}
 use Rattle.float.proofs.positions.position_f32.Goals as goal
 use Rattle.float.proofs.positions.position_f32.Goals.{After-abs_f32-x}
 
@@ -18,12 +15,3 @@ overflow_cast-x c = record { sfits = below c }
 
 pub overflow_sub-result : goal.overflow_sub-result
 overflow_sub-result c = neg_fits w32 _ (below ((goal.at.overflow_sub-result c).After-abs_f32-x))
-
-pub overflow_sub-result-else-bits-lt2147483648 : goal.overflow_sub-result-else-bits-lt2147483648
-overflow_sub-result-else-bits-lt2147483648 c = down_fits w32 _ (below ((goal.at.overflow_sub-result-else-bits-lt2147483648 c).After-abs_f32-x))
-
-pub returns-then-bits-lt2147483648 : goal.returns-then-bits-lt2147483648
-returns-then-bits-lt2147483648 c = to_z_pos w32 _ (below ((goal.at.returns-then-bits-lt2147483648 c).After-abs_f32-x)) ∙ position_clear 23 8 _ c.abs_f32-x.ensures c.if-bits-lt2147483648.true
-
-pub returns-else-bits-lt2147483648 : goal.returns-else-bits-lt2147483648
-returns-else-bits-lt2147483648 c = down_back w32 _ (below ((goal.at.returns-else-bits-lt2147483648 c).After-abs_f32-x)) ∙ position_set 23 8 _ c.abs_f32-x.ensures c.if-bits-lt2147483648.false
