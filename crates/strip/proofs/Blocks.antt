@@ -44,10 +44,13 @@ taken_joined n p b whole =
 
 -- ---- blocks
 
-pub counted_joined : {A : Type 0} (test : A → Bool) (n : ℕ) (a b : List A) → counted (counted (n + how_many test a) + how_many test b) ≡ counted (n + how_many test (a ++ b))
-counted_joined test n a b =
+pub counts_joined : {A : Type 0} (test : A → Bool) (n : ℕ) (a b : List A) → counted (counted (n + how_many test a) + how_many test b) ≡ counted (n + how_many test (a ++ b))
+counts_joined test n a b =
     mod-add-mod (n + how_many test a) (2 ^ 64) (how_many test b)
     ∙ ap counted (add_assoc n (how_many test a) (how_many test b) ∙ ap (λ (m : ℕ). n + m) (sym (many_joined test a b)))
+
+counted_joined : (test : ℕ → Bool) (n : ℕ) (a b : List ℕ) → counted (counted (n + how_many test a) + how_many test b) ≡ counted (n + how_many test (a ++ b))
+counted_joined test n a b = counts_joined test n a b
 
 sheet_joined : (s : Sheet) (p b : List ℕ) → left_of F32 p ≡ 0 → sheet_after (sheet_after s p) b ≡ sheet_after s (p ++ b)
 unfolding sheet_after

@@ -8,7 +8,7 @@ use Rattle.strip.specs.declared.Difference.{Difference}
 use Rattle.strip.specs.Sheet.{taken_of, taken_in}
 use Rattle.strip.specs.Difference.{is_different, shared, widest_of, first_in, earlier_of, difference_after}
 use Rattle.strip.specs.DifferenceTheorem.{unseen, InStep, both, left_ended, right_ended, Seen, nothing, more}
-use Rattle.strip.proofs.Blocks.{taken_joined, counted_joined}
+use Rattle.strip.proofs.Blocks.{taken_joined, counts_joined}
 use Rattle.strip.proofs.Pairs.{shared_count, shared_joined, shared_left_ends, shared_right_ends, none_shared, widest_joined}
 use Rattle.strip.proofs.Firsts.{no_more_found, found_joined}
 
@@ -75,7 +75,7 @@ module _ (s : Difference) (l r c d : List ℕ) where
         ← add_assoc s.left (length ls) (length cs),
         ← add_assoc s.right (length rs) (length ds),
         meets_shared ls rs cs ds meets,
-        counted_joined is_different s.different (shared ls rs) (shared cs ds),
+        counts_joined is_different s.different (shared ls rs) (shared cs ds),
         meets_found s.first s.left ls rs cs ds meets,
         widest_joined (shared ls rs) (shared cs ds),
         wide,
