@@ -9,12 +9,10 @@ pub returns-then-n-m : goal.returns-then-n-m
 returns-then-n-m c = simp (
   signed_test c.ranges.m c.ranges.n c.if-m-n.false,
   signed_test c.ranges.n c.ranges.m c.if-n-m.true,
-
 )
 
 pub returns-else-n-m : goal.returns-else-n-m
 returns-else-n-m c = simp (
   signed_test c.ranges.m c.ranges.n c.if-m-n.false,
   signed_test c.ranges.n c.ranges.m c.if-n-m.false,
-
 )

@@ -23,7 +23,9 @@ pub overflow_sub-result-else-bits-lt32768 : goal.overflow_sub-result-else-bits-l
 overflow_sub-result-else-bits-lt32768 c = down_fits w16 _ (below ((goal.at.overflow_sub-result-else-bits-lt32768 c).After-abs_f16-x))
 
 pub returns-then-bits-lt32768 : goal.returns-then-bits-lt32768
-returns-then-bits-lt32768 c = to_z_pos w16 _ (below ((goal.at.returns-then-bits-lt32768 c).After-abs_f16-x)) ∙ position_clear 10 5 _ c.abs_f16-x.ensures c.if-bits-lt32768.true
+returns-then-bits-lt32768 c =
+    to_z_pos w16 _ (below ((goal.at.returns-then-bits-lt32768 c).After-abs_f16-x)) ∙ position_clear 10 5 _ c.abs_f16-x.ensures c.if-bits-lt32768.true
 
 pub returns-else-bits-lt32768 : goal.returns-else-bits-lt32768
-returns-else-bits-lt32768 c = down_back w16 _ (below ((goal.at.returns-else-bits-lt32768 c).After-abs_f16-x)) ∙ position_set 10 5 _ c.abs_f16-x.ensures c.if-bits-lt32768.false
+returns-else-bits-lt32768 c =
+    down_back w16 _ (below ((goal.at.returns-else-bits-lt32768 c).After-abs_f16-x)) ∙ position_set 10 5 _ c.abs_f16-x.ensures c.if-bits-lt32768.false
