@@ -38,8 +38,24 @@ class Function:
     def place(self):
         return f"{self.source.relative_to(ROOT)}:{self.line}"
 
+    def cited(self):
+        """The names that its clauses take from a `ghost use` of its file, each with where that is."""
+        taken = imports(self.source)
+        words = {word for clause in self.clauses for word in re.split(r"[\s(){},;]+", clause.text)}
+        return {word: taken[word] for word in words if word in taken}
+
     def has(self, word):
         return any(clause.word == word for clause in self.clauses)
+
+
+def imports(source):
+    """What a file calls what it takes by `ghost use`, and where that is."""
+    taken = {}
+    for path, listed in re.findall(r"^ghost use ([^\s{;]+)\.\{([^}]*)\};", source.read_text(), re.M):
+        for name in listed.split(","):
+            there, _, here = name.strip().partition(" as ")
+            taken[here or there] = f"{path}.{there}"
+    return taken
 
 
 def closing(text, at):
