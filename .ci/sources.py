@@ -6,16 +6,14 @@ from pathlib import Path
 
 ROOT = Path(__file__).resolve().parent.parent
 HEAD = re.compile(r'^ *(?P<public>pub(?P<within>\(crate\))? )?(?:extern "C" )?fn (?P<name>\w+)')
-BREAK = re.compile(r"//[^\n]*|\b(?P<word>requires|ensures)\b(?P<label>[^{]*)\{|\{")
+BREAK = re.compile(r"//[^\n]*|\b(?P<word>requires|ensures)\b(?P<name>[^{]*)\{|\{")
 
 
 class Clause:
-    """`requires` or `ensures`: its label, what it calls the answer, and what it says."""
+    """`requires` or `ensures`: its name, and what it says; the answer is its `result`."""
 
-    def __init__(self, word, label, text):
-        self.word, self.label = word, label.strip()
-        said = re.fullmatch(r"(?:λ (\S+)\. )?⌜ (.*) ⌝", " ".join(text.split()))
-        self.answer, self.text = (said[1], said[2]) if said else (None, " ".join(text.split()))
+    def __init__(self, word, name, text):
+        self.word, self.name, self.text = word, name.strip(), " ".join(text.split())
 
 
 class Function:
@@ -31,7 +29,7 @@ class Function:
             at = found.end()
             if found["word"]:
                 end = closing(text, at)
-                self.clauses.append(Clause(found["word"], found["label"], text[at:end]))
+                self.clauses.append(Clause(found["word"], found["name"], text[at:end]))
                 at = end + 1
             elif found[0] == "{":
                 break
@@ -40,8 +38,24 @@ class Function:
     def place(self):
         return f"{self.source.relative_to(ROOT)}:{self.line}"
 
+    def cited(self):
+        """The names that its clauses take from a `ghost use` of its file, each with where that is."""
+        taken = imports(self.source)
+        words = {word for clause in self.clauses for word in re.split(r"[\s(){},;]+", clause.text)}
+        return {word: taken[word] for word in words if word in taken}
+
     def has(self, word):
         return any(clause.word == word for clause in self.clauses)
+
+
+def imports(source):
+    """What a file calls what it takes by `ghost use`, and where that is."""
+    taken = {}
+    for path, listed in re.findall(r"^ghost use ([^\s{;]+)\.\{([^}]*)\};", source.read_text(), re.M):
+        for name in listed.split(","):
+            there, _, here = name.strip().partition(" as ")
+            taken[here or there] = f"{path}.{there}"
+    return taken
 
 
 def closing(text, at):
@@ -66,6 +80,11 @@ def is_program(source):
     return (ROOT / "crates" / crate_of(source) / "src" / "main.rt").exists()
 
 
+def is_archive(source):
+    """Whether it is of a crate that is built for C alone: crates.txt calls it a `staticlib`, and no other crate can stand on it."""
+    return re.search(rf"^{crate_of(source)} .*\bstaticlib\b.*:", (ROOT / "crates.txt").read_text(), re.M) is not None
+
+
 def functions(source):
     """Those of a file, in order; a method has its type before its name."""
     found, owner = [], ""
@@ -81,8 +100,12 @@ def functions(source):
 
 
 def public_functions():
-    """Those of every crate that is no program."""
-    return [f for source in sources() if not is_program(source) for f in functions(source) if f.is_public]
+    """Those of every crate that is no program; what an archive exports are these again (`exports`)."""
+    return [f for source in sources() if not is_program(source) and not is_archive(source) for f in functions(source) if f.is_public]
+
+
+def exports():
+    return [f for source in sources() if is_archive(source) for f in functions(source) if f.is_public]
 
 
 def verdict(command, looked_at, faults):

@@ -1,6 +1,6 @@
 /* Silamogo from C: samples of eleven kinds classified, compared, clamped and converted exactly; records compared; keys written and read.
  *
- * Link target/staticlib/libsilamogo.a (`rt staticlib silamogo` proves the library and writes it). docs/RULES.md has the rules that are
+ * Link target/staticlib/libsilamogo.a (`./build silamogo` proves the library and writes it). docs/RULES.md has the rules that are
  * cited here by their headings.
  *
  * Every call answers for any numbers that it is given. An answer begins with the number of a refusal and a place, both 0 when the call is

@@ -2,7 +2,7 @@
 
 The shared library is looked for at the path in SILAMOGO_LIBRARY, or beside this file and in the repository's target/. To make it:
 
-    rt staticlib silamogo
+    ./build silamogo
     gcc -shared -o target/libsilamogo.so -Wl,--whole-archive target/staticlib/libsilamogo.a -Wl,--no-whole-archive
 
 A call gives its result or raises Refusal, with the number and the place of docs/RULES.md; after it everything that was lent is as it was.

@@ -1,5 +1,5 @@
 //! Silamogo from Rust: a safe wrapper around the boundary, in one file for `mod silamogo;`, with the standard library alone.
-//! Edition 2021 or later; link with `-L native=target/staticlib`, where `rt staticlib silamogo` writes the proved library.
+//! Edition 2021 or later; link with `-L native=target/staticlib`, where `./build silamogo` writes the proved library.
 //!
 //! A call gives its result or the refusal with its number and place; after a refusal everything that was lent is as it was. No call
 //! panics or keeps what it was lent, and none but `keys_write` allocates. docs/RULES.md has the rules.

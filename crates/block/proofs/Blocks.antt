@@ -1,5 +1,6 @@
 -- What one sample, a block and a step answer and leave, by what the passes found.
-use Rattle.std.proofs.Common.{◌≡◌, ℕ, ◌+◌, ◌*◌, ◌/◌, ◌%◌, ◌^◌, ◌<◌, ◌≤◌, Bool, true, false, List, ◌++◌, map, length, get_or, drop, sym, refl, ap, ◌∙◌, subst, true≢false, zero-add, arith, le-ltb, lt-ltb, eq-eqb, ne_eqb}
+use Rattle.std.proofs.Common.{◌≡◌, ℕ, ◌+◌, ◌*◌, ◌/◌, ◌%◌, ◌^◌, ◌<◌, ◌≤◌, Bool, true, false, List, ◌++◌, map, length, get_or, drop, sym, refl, ap, ◌∙◌}
+use Rattle.std.proofs.Common.{subst, true≢false, zero-add, arith, le-ltb, lt-ltb, eq-eqb, ne_eqb}
 use lib.ListN.{length-map}
 use lib.Seq.{sets, sets-eq}
 use Rattle.value.specs.declared.Kind.{Kind}
@@ -103,7 +104,8 @@ module _ (from to : Kind) (before : ℕ) (answer : Outcome Success) (src : List 
   left_over h = rw (ne_eqb (left_of from src) 0 h) refl
 
   past_left : left_of from src ≡ 0
-      → step_answer from to before answer src room ≡ and_then answer (λ d. chain (buffer_rules from to src room) (placed_from before (block_answer from to src)))
+      → step_answer from to before answer src room
+      ≡ and_then answer (λ d. chain (buffer_rules from to src room) (placed_from before (block_answer from to src)))
   unfolding step_answer
   past_left none = rw (eq-eqb (left_of from src) 0 none) refl
 

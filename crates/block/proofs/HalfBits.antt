@@ -1,5 +1,6 @@
 -- The f32 pattern of an f16 that is no NaN, found without its sign: by the table, as the infinity, or with the exponent moved.
-use Rattle.std.proofs.Common.{◌≡◌, ℕ, ◌+◌, ◌*◌, ◌%◌, ◌<◌, ◌≤◌, Bool, false, cond, List, get_or, sym, ap, ◌∙◌, subst, lt_of_le_of_lt, mod-lt, mod-eq_of_lt, add_comm, arith, lit<, ltb-false, le-leb}
+use Rattle.std.proofs.Common.{◌≡◌, ℕ, ◌+◌, ◌*◌, ◌%◌, ◌<◌, ◌≤◌, Bool, false, cond, List, get_or, sym, ap, ◌∙◌, subst, lt_of_le_of_lt, mod-lt}
+use Rattle.std.proofs.Common.{mod-eq_of_lt, add_comm, arith, lit<, ltb-false, le-leb}
 use borrow.Author.Tests.{lt-leb}
 use lib.Ieee.{binary32}
 use Rattle.float.specs.Format.{f16, f32, abs_in, nan_in, negative_in}

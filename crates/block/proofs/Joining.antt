@@ -35,7 +35,8 @@ module _ {A B : Type 0} (conv : A → Outcome B) where
   results_joined (x ∷ xs) ys = ap (sample_before (conv x)) (results_joined xs ys) ∙ before_joined (conv x) (row_results conv xs) (row_results conv ys)
 
   -- places counted from n on, below 2^64
-  sample_placed : (n at : ℕ) (o : Outcome B) (r : Outcome Success) → n + at < 2 ^ 64 → sample_then (n + at) o (placed_from n r) ≡ placed_from n (sample_then at o r)
+  sample_placed : (n at : ℕ) (o : Outcome B) (r : Outcome Success) → n + at < 2 ^ 64 →
+      sample_then (n + at) o (placed_from n r) ≡ placed_from n (sample_then at o r)
   sample_placed n at (gives y) r h = refl
   sample_placed n at (refuses m p) r h = ap (refuses m) (sym (mod-eq_of_lt h))
 

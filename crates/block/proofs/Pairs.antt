@@ -1,5 +1,7 @@
 -- The four pairs that have row calls: each sample converts in its row as it does in its block, so the block is answered as its rows are.
-use Rattle.std.proofs.Common.{◌≡◌, ℕ, zero, suc, ◌+◌, ◌/◌, ◌^◌, ◌<◌, ◌≤◌, Bool, false, not, T, List, [], ◌∷◌, ◌++◌, map, length, get_or, take, drop, pos, sym, refl, ap, ◌∙◌, subst, le_of_suc-le-suc, not-suc-le-zero, mod-eq_of_lt, zero-add, div-one, arith, take-append-drop, length-take-le}
+use Rattle.std.proofs.Common.{◌≡◌, ℕ, zero, suc, ◌+◌, ◌/◌, ◌^◌, ◌<◌, ◌≤◌, Bool, false, not, T, List, [], ◌∷◌, ◌++◌, map, length, get_or, take, drop}
+use Rattle.std.proofs.Common.{pos, sym, refl, ap, ◌∙◌, subst, le_of_suc-le-suc, not-suc-le-zero, mod-eq_of_lt, zero-add, div-one, arith}
+use Rattle.std.proofs.Common.{take-append-drop, length-take-le}
 use lib.Seq.{sets, sets-eq}
 use lib.Ieee.{Float, nan, inf, fin, binary32, is_nan, of_bits, to_bits}
 use lib.Ieee.Bits.{to_bits-lt}
@@ -44,7 +46,8 @@ u8_sample b small = ap (λ (n : ℕ). mapped bits_of (convert_of (U8 n) kind.U16
 
 u16_narrowed : (b : ℕ) → b < 2 ^ 16 → bits_to kind.U8 (value_of kind.U16 b) ≡ mapped (λ n. n) (u16_to_u8 b)
 unfolding bits_to value_of u16_to_u8
-u16_narrowed b small = ap (λ (n : ℕ). mapped bits_of (convert_of (U16 n) kind.U8)) (mod-eq_of_lt small) ∙ mapped_same (mapped bits_of (convert_of (U16 b) kind.U8))
+u16_narrowed b small =
+    ap (λ (n : ℕ). mapped bits_of (convert_of (U16 n) kind.U8)) (mod-eq_of_lt small) ∙ mapped_same (mapped bits_of (convert_of (U16 b) kind.U8))
 
 module _ (n : ℕ) (small : n < 2 ^ 16) where
   u16_pattern : convert_of (U16 n) kind.F32 ≡ gives (f32_value (to_bits binary32 (as_f32 n)))
@@ -57,7 +60,8 @@ module _ (n : ℕ) (small : n < 2 ^ 16) where
   unfolding bits_to
   u16_bits =
       ap (mapped bits_of) u16_pattern
-      ∙ ap gives (bits_pattern binary32 (to_bits binary32 (as_f32 n)) (to_bits-lt binary32 (as_f32 n) (of_int-fits binary32 (pos n))) ∙ sym (bits_are (as_f32 n)))
+      ∙ ap gives (bits_pattern binary32 (to_bits binary32 (as_f32 n)) (to_bits-lt binary32 (as_f32 n) (of_int-fits binary32 (pos n)))
+      ∙ sym (bits_are (as_f32 n)))
       ∙ sym (ap (mapped plain_bits) (u16_float n small))
 
 u16_floated : (b : ℕ) → b < 2 ^ 16 → bits_to kind.F32 (value_of kind.U16 b) ≡ mapped plain_bits (u16_to_f32 b)
@@ -74,7 +78,8 @@ f32_sample b small =
 -- ---- u8 to u16
 
 -- the second row, as no sample is refused
-pub widened_row : (xs ys : List ℕ) → length xs ≡ length ys → ((i : ℕ) → i < length xs → get_or xs i 0 < 2 ^ 8) → convert_exit u8_to_u16 xs ys ≡ map (λ (n : ℕ). n) xs
+pub widened_row : (xs ys : List ℕ) → length xs ≡ length ys →
+    ((i : ℕ) → i < length xs → get_or xs i 0 < 2 ^ 8) → convert_exit u8_to_u16 xs ys ≡ map (λ (n : ℕ). n) xs
 widened_row xs ys same all = sym (always_done u8_to_u16 xs ys (λ n. n) (λ n. n < 2 ^ 8) 0 u8_wider same all (map (λ (n : ℕ). n) xs) refl).1
 
 numbers_one : (src : List ℕ) → numbers_in 1 (length src) src ≡ src

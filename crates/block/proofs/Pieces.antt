@@ -1,5 +1,6 @@
 -- A block that is converted row after row: the samples of a row, the room for it, and how far the buffer is filled.
-use Rattle.std.proofs.Common.{◌≡◌, ℕ, ◌+◌, ◌-◌, ◌*◌, ◌%◌, ◌<◌, ◌≤◌, List, length, take, drop, replicate, sym, ap, ◌∙◌, le_trans, mul_comm, mul-le-mul_left, zero-add, mul-add, arith, length-drop, length-take-le, take_all}
+use Rattle.std.proofs.Common.{◌≡◌, ℕ, ◌+◌, ◌-◌, ◌*◌, ◌%◌, ◌<◌, ◌≤◌, List, length, take, drop, replicate, sym, ap, ◌∙◌, le_trans, mul_comm}
+use Rattle.std.proofs.Common.{mul-le-mul_left, zero-add, mul-add, arith, length-drop, length-take-le, take_all}
 use native.Mathlib.Nat.{add-sub_cancel_left}
 use lib.ListN.{length-replicate}
 

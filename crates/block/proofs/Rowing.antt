@@ -1,5 +1,6 @@
 -- A block that is laid out as a row: the row's conversion of each sample is the block's, so what the row call answers is the block's answer.
-use Rattle.std.proofs.Common.{◌≡◌, ℕ, suc, ◌+◌, ◌*◌, ◌/◌, ◌^◌, ◌<◌, ◌≤◌, Bool, not, List, [], ◌∷◌, map, length, get_or, drop, sym, refl, ap, ◌∙◌, subst, arith, get_or-drop, eq-eqb}
+use Rattle.std.proofs.Common.{◌≡◌, ℕ, suc, ◌+◌, ◌*◌, ◌/◌, ◌^◌, ◌<◌, ◌≤◌, Bool, not, List, [], ◌∷◌, map, length, get_or, drop, sym, refl, ap, ◌∙◌}
+use Rattle.std.proofs.Common.{subst, arith, get_or-drop, eq-eqb}
 use native.Mathlib.Nat.{suc_inj}
 use lib.ListN.{length-map, get_or-map}
 use lib.Seq.{sets}
@@ -60,7 +61,8 @@ module _ {A B C D : Type 0} (f : A → Outcome B) (g : C → Outcome D) (enc : D
 
 module _ (from to : Kind) (src old : List ℕ) {A B : Type 0} (conv : A → Outcome B) (enc : B → ℕ) (xs : List A) (ys : List B) (e : A)
     (many : length xs ≡ count_of from src) (same : length xs ≡ length ys) (agree : Agree (bits_to to) conv enc (U8 0) e (samples_of from src) xs) where
-  rows : (row_answer (bits_to to) 0 (samples_of from src) ≡ row_answer conv 0 xs) × (row_results (bits_to to) (samples_of from src) ≡ map enc (row_results conv xs))
+  rows : (row_answer (bits_to to) 0 (samples_of from src) ≡ row_answer conv 0 xs)
+      × (row_results (bits_to to) (samples_of from src) ≡ map enc (row_results conv xs))
   rows = rows_agree (bits_to to) conv enc (U8 0) e 0 (samples_of from src) xs (length_samples from (count_of from src) src ∙ sym many) agree
 
   pub row_is : convert_answer conv xs ys ≡ row_answer conv 0 xs

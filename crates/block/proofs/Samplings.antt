@@ -1,5 +1,7 @@
 -- The bytes that samples make.
-use Rattle.std.proofs.Common.{◌≡◌, ℕ, zero, suc, ◌+◌, ◌*◌, ◌/◌, ◌<◌, ◌≤◌, List, [], ◌∷◌, ◌++◌, map, length, get_or, take, drop, sym, refl, ap, ◌∙◌, append_assoc, append-nil, suc-mul, add_comm, le-div_iff_mul-le, zero-mul, add-one, arith, length-append, length-take-le, take_all, drop-cons, take-add}
+use Rattle.std.proofs.Common.{◌≡◌, ℕ, zero, suc, ◌+◌, ◌*◌, ◌/◌, ◌<◌, ◌≤◌, List, [], ◌∷◌, ◌++◌, map, length, get_or, take, drop, sym, refl, ap, ◌∙◌}
+use Rattle.std.proofs.Common.{append_assoc, append-nil, suc-mul, add_comm, le-div_iff_mul-le, zero-mul, add-one, arith, length-append, length-take-le}
+use Rattle.std.proofs.Common.{take_all, drop-cons, take-add}
 use lib.ListN.{length-map}
 use lib.Seq.{sets, length-sets}
 use Rattle.value.specs.declared.Kind.{Kind}
@@ -37,7 +39,8 @@ pub bytes_append : (k : Kind) (a b : List ℕ) → bytes_for k (a ++ b) ≡ byte
 unfolding bytes_for
 bytes_append k [] b = refl
 bytes_append k (x ∷ a) b =
-    ap (λ (l : List ℕ). little_endian (bytes_of k) x ++ l) (bytes_append k a b) ∙ sym (append_assoc (little_endian (bytes_of k) x) (bytes_for k a) (bytes_for k b))
+    ap (λ (l : List ℕ). little_endian (bytes_of k) x ++ l) (bytes_append k a b)
+    ∙ sym (append_assoc (little_endian (bytes_of k) x) (bytes_for k a) (bytes_for k b))
 
 bytes_one : (k : Kind) (b : ℕ) → bytes_for k (b ∷ []) ≡ little_endian (bytes_of k) b
 unfolding bytes_for

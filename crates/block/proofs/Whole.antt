@@ -1,5 +1,6 @@
 -- The blocks decide as the whole: after each block that ends at a whole sample, a run stands where the bytes so far put it.
-use Rattle.std.proofs.Common.{◌≡◌, ℕ, ◌+◌, ◌/◌, ◌^◌, ◌<◌, ◌≤◌, Bool, not, List, [], ◌++◌, length, sym, refl, ap, ◌∙◌, subst, inl, inr, append_assoc, append-nil, add-zero, mod-eq_of_lt, zero-add, arith, length-append, eq-eqb, ne_eqb}
+use Rattle.std.proofs.Common.{◌≡◌, ℕ, ◌+◌, ◌/◌, ◌^◌, ◌<◌, ◌≤◌, Bool, not, List, [], ◌++◌, length, sym, refl, ap, ◌∙◌, subst, inl, inr, append_assoc}
+use Rattle.std.proofs.Common.{append-nil, add-zero, mod-eq_of_lt, zero-add, arith, length-append, eq-eqb, ne_eqb}
 use native.Mathlib.Nat.{zero-div, zero-mod}
 use Rattle.float.proofs.Naturals.{lt_or_ge}
 use Rattle.float.proofs.Tests.{clash}

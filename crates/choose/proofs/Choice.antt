@@ -79,7 +79,8 @@ refused_kinds : (a b : Value) (f : Refusal) → refusal_of f ≡ compare_of a b 
 unfolding compare_of
 refused_kinds a b f h = go (kinds_differ a b) refl h
   where
-    go : (t : Bool) → kinds_differ a b ≡ t → refusal_of f ≡ refuse_if t 7 0 (gives (value_order a b)) → (kinds_differ a b ≡ true) × (f.number ≡ 7) × (f.place ≡ 0)
+    go : (t : Bool) → kinds_differ a b ≡ t → refusal_of f ≡ refuse_if t 7 0 (gives (value_order a b)) →
+        (kinds_differ a b ≡ true) × (f.number ≡ 7) × (f.place ≡ 0)
     go true e q = (e, cc, cc)
     go false e q = clash cc
 

@@ -67,7 +67,7 @@ is_true false t = absurd t
 pub differ : {a a' : Value} (b : Value) → a ≡ a' → NotOf (kind_of a') b → kinds_differ a b ≡ true
 differ {a} {a'} b q n =
     let other : eqb (kind_number (kind_of a')) (kind_number (kind_of b)) ≡ false =
-        ne_eqb _ _ (λ e. other_kind (kind_of a') b n (number_injective (kind_of a') (kind_of b) e)) in
+    ne_eqb _ _ (λ e. other_kind (kind_of a') b n (number_injective (kind_of a') (kind_of b) e)) in
     ap (λ (v : Value). kinds_differ v b) q ∙ ap not other
 
 pub alike : {a a' b b' : Value} → a ≡ a' → b ≡ b' → kind_of a' ≡ kind_of b' → kinds_differ a b ≡ false

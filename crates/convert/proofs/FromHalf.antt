@@ -147,7 +147,8 @@ high_moved b normal below = half_moved b (abs_in f16 b * 0x2000 + 0x3800_0000) b
 
 -- ---- an infinity
 
-pub infinite_moved : (b : ℕ) → abs_in f16 b ≡ inf_in f16 → into_of kind.F32 (exact_of (F16 b)) ≡ gives (f32_value (with_sign f32 (negative_in f16 b) (inf_in f32)))
+pub infinite_moved : (b : ℕ) → abs_in f16 b ≡ inf_in f16 →
+    into_of kind.F32 (exact_of (F16 b)) ≡ gives (f32_value (with_sign f32 (negative_in f16 b) (inf_in f32)))
 infinite_moved b q =
     let is : exact_of (F16 b) ≡ infinite (negative_in f16 b) = ap (times (step_of f16)) (pattern_infinite 10 5 b q) in
     into_pattern (with_sign f32 (negative_in f16 b) (inf_in f32)) (exact_of (F16 b)) (ap is_none is) (is ∙ sym (infinite_made f32 (negative_in f16 b)))

@@ -20,7 +20,8 @@ use Rattle.convert.proofs.Exactly.{into_gives, other_kind, sound, complete}
 
 module _ (v : Value) (to : Kind) (other : kind_number (kind_of v) ≡ kind_number to → ⊥) where
   -- no refusal hides a number that exists
-  pub refused_none : (n p : ℕ) → convert_of v to ≡ refuses n p → (value.number_of v ≡ none → ⊥) → (is_minus_zero (exact_of v) && is_integer (form_of to)) ≡ false
+  pub refused_none : (n p : ℕ) → convert_of v to ≡ refuses n p →
+      (value.number_of v ≡ none → ⊥) → (is_minus_zero (exact_of v) && is_integer (form_of to)) ≡ false
       → (b : ℕ) → value.number_of (value_of to b) ≡ value.number_of v → ⊥
   refused_none n p h d z b q = clash (cc (complete v to other b d z q, h))
 

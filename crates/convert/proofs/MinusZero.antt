@@ -68,7 +68,8 @@ module _ (k p e b : ℕ) where
     | inr (inr g) ↦
         let set : sign_of p e ≤ b = omega arith in
         let a : 0 < abs_of p e b = omega (arith, abs_set p e b set) in
-        let m : 0 * k < mag_of p (abs_of p e b) * k = times_rises k some 0 (mag_of p (abs_of p e b)) (omega (arith, mag_zero p, mag_rises p 0 (abs_of p e b) a)) in
+        let m : 0 * k < mag_of p (abs_of p e b) * k =
+        times_rises k some 0 (mag_of p (abs_of p e b)) (omega (arith, mag_zero p, mag_rises p 0 (abs_of p e b) a)) in
         no_minus_zero true (le-leb (sign_of p e) b set) (ne_eqb (mag_of p (abs_of p e b) * k) 0 (λ q. omega arith))
         ∙ sym (ne_eqb b (sign_of p e) (λ q. omega arith))
   ]

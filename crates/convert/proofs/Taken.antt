@@ -79,7 +79,8 @@ pub field_small : (p i a : ℕ) → i ≤ 2047 * 2 ^ p → a ≤ i → (a ≡ i 
 field_small p i a h l d = let b : a < i = omega arith in (div-lt_iff_lt-mul {k = 2 ^ p} {x = a} {y = 2047} (pow_pos p)).1 (lt_of_lt_of_le b h)
 
 -- a float's pattern by its sign and abs
-pub taken_pattern : (f : Format) {s : Bool} {a b m : ℕ} → b ≡ m → s ≡ negative_in f b → a ≡ abs_in f b → pattern_at (fraction_of f) (inf_in f) s a ≡ pattern_in f m
+pub taken_pattern : (f : Format) {s : Bool} {a b m : ℕ} → b ≡ m → s ≡ negative_in f b →
+    a ≡ abs_in f b → pattern_at (fraction_of f) (inf_in f) s a ≡ pattern_in f m
 unfolding pattern_of
 taken_pattern f {s} {a} {b} q r t =
     ap (λ (k : Bool). pattern_at (fraction_of f) (inf_in f) k a) r

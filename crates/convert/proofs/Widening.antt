@@ -176,7 +176,8 @@ holds_in (integer k z) r = (z, fits_below (2 ^ (k - 1)) z r, refl)
 holds_in (real f b) r = (b, refl)
 
 -- a kind with room for every number of the value's own has it
-pub has_room : (v : Value) (to : Kind) → InRange v → widens (form_of (kind_of v)) (form_of to) ≡ true → (number_of v ≡ none → ⊥) → Accepted (form_of to) (exact_of v)
+pub has_room : (v : Value) (to : Kind) → InRange v → widens (form_of (kind_of v)) (form_of to) ≡ true →
+    (number_of v ≡ none → ⊥) → Accepted (form_of to) (exact_of v)
 has_room v to r h n =
     let holds = subst (λ (form : Form). Holds form (exact_of v)) (content_form v) (holds_in (content_of v) (content_ranged v r)) in
     room (form_of (kind_of v)) (form_of to) (exact_of v) holds h (none_is (exact_of v) n)

@@ -24,7 +24,8 @@ not_below_zero x h = elim (three_ways x 0) [
   | inr (inr g) ↦ clash (cc (order_greater x 0 g))
 ]
 
-signed_position : (s t : Bool) (x y : ℕ) → order_z (signed_of s x) (signed_of t y) ≡ Less → order_z (cond s (negsuc x) (pos x)) (cond t (negsuc y) (pos y)) ≡ Less
+signed_position : (s t : Bool) (x y : ℕ) → order_z (signed_of s x) (signed_of t y) ≡ Less →
+    order_z (cond s (negsuc x) (pos x)) (cond t (negsuc y) (pos y)) ≡ Less
 signed_position false false x y h = h
 signed_position false true x zero h = absurd (not_below_zero x h)
 signed_position false true x (suc y) h = cc

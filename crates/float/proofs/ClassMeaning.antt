@@ -46,7 +46,8 @@ signed_zero false = refl
 
 scaled_zero : (p e b : ℕ) → abs_of p e b ≡ 0 → scaled_of p e b ≡ pos 0
 unfolding scaled_of
-scaled_zero p e b q = ap (λ (x : ℕ). signed_of (negative_of p e b) (mag_of p x)) q ∙ ap (signed_of (negative_of p e b)) (mag_zero p) ∙ signed_zero (negative_of p e b)
+scaled_zero p e b q =
+    ap (λ (x : ℕ). signed_of (negative_of p e b) (mag_of p x)) q ∙ ap (signed_of (negative_of p e b)) (mag_zero p) ∙ signed_zero (negative_of p e b)
 
 normal_range : (p e x : ℕ) → 2 ≤ e → x < inf_of p e → 2 ^ p ≤ x → (2 ^ p ≤ mag_of p x) × (mag_of p x ≤ largest_of p e)
 normal_range p e x h l g =

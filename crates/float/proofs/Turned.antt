@@ -61,7 +61,8 @@ less_turned Unordered = refl
 pub greater_turned : (p e a b : ℕ) → is_less (compare_of p e b a) ≡ is_greater (compare_of p e a b)
 unfolding compare_of
 greater_turned p e a b =
-    ap is_less (turn (number_of (pattern_of p e a)) (number_of (pattern_of p e b))) ∙ less_turned (order_of (number_of (pattern_of p e a)) (number_of (pattern_of p e b)))
+    ap is_less (turn (number_of (pattern_of p e a)) (number_of (pattern_of p e b)))
+    ∙ less_turned (order_of (number_of (pattern_of p e a)) (number_of (pattern_of p e b)))
 
 -- ---- Unordered is no number on either side
 

@@ -100,7 +100,8 @@ module _ (p e : ℕ) where
 
   -- so it is canonical when the pattern is no NaN
   pub key_canonical : (b : ℕ) → b < 2 * sign_of p e → nan_of p e b ≡ false
-      → (nan_of p e (pattern_from (sign_of p e) (float_key (sign_of p e) b)) || eqb (pattern_from (sign_of p e) (float_key (sign_of p e) b)) (sign_of p e)) ≡ false
+      → (nan_of p e (pattern_from (sign_of p e) (float_key (sign_of p e) b)) || eqb (pattern_from (sign_of p e) (float_key (sign_of p e) b)) (sign_of p e))
+      ≡ false
   key_canonical b h n = rw (from_key b h) (elim (three_ways b (sign_of p e)) [
     | inl l ↦ let d = ne_eqb b (sign_of p e) (λ q. omega arith) in rw (d, n, d)
     | inr (inl q) ↦

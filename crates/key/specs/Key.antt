@@ -1,5 +1,6 @@
 -- The key of a record: written, and read back. RULES.md: Keys, Refusals.
-use Rattle.std.specs.Prelude.{ℕ, suc, ◌+◌, ◌-◌, ◌*◌, ◌%◌, ◌^◌, Bool, false, not, ◌||◌, cond, List, [], ◌∷◌, ◌++◌, map, eqb, ltb, leb, length, take, drop, ℤ, pos, negsuc}
+use Rattle.std.specs.Prelude.{ℕ, suc, ◌+◌, ◌-◌, ◌*◌, ◌%◌, ◌^◌, Bool, false, not, ◌||◌, cond, List, [], ◌∷◌, ◌++◌, map, eqb, ltb, leb, length, take}
+use Rattle.std.specs.Prelude.{drop, ℤ, pos, negsuc}
 use Rattle.float.specs.Format.{sign_in, nan_in}
 use Rattle.float.specs.Number.{is_none}
 use Rattle.value.specs.declared.Kind.{Kind}

@@ -86,7 +86,8 @@ module _ (u v w : Value) {p q r : Order} where
     ]
   ]
 
-  equal_step : (p ≡ Equal → q ≡ Equal → r ≡ Equal) → or_else (value_order u v) p ≡ Equal → or_else (value_order v w) q ≡ Equal → or_else (value_order u w) r ≡ Equal
+  equal_step : (p ≡ Equal → q ≡ Equal → r ≡ Equal) → or_else (value_order u v) p ≡ Equal →
+      or_else (value_order v w) q ≡ Equal → or_else (value_order u w) r ≡ Equal
   equal_step rest h k =
       let e = equal_else (value_order u v) p h in
       let f = equal_else (value_order v w) q k in

@@ -45,7 +45,8 @@ module _ (a b : Record) {bad : Bool} (u : bad ≡ (bad_count a.count || bad_coun
     unfolding decide_of
     decide_differ v t = rw (← u, h, ← v, t)
 
-    pub decide_given : {d : Decision} → shapes_differ (fields_of a) (fields_of b) ≡ false → d ≡ decision_from 0 (fields_of a) (fields_of b) → gives d ≡ decide_of a b
+    pub decide_given : {d : Decision} → shapes_differ (fields_of a) (fields_of b) ≡ false →
+        d ≡ decision_from 0 (fields_of a) (fields_of b) → gives d ≡ decide_of a b
     unfolding decide_of
     decide_given s q = rw (← u, h, s, q)
 
@@ -64,7 +65,8 @@ module _ (a b : Record) where
   unfolding decide_of
   chosen_decided one other =
       chain_then (chosen_from one other) (record_rules a b) (gives (decision_from 0 (fields_of a) (fields_of b)))
-      ∙ ap (λ (n : ℕ). chain (record_rules a b) (chosen_by n one other (lexical_of (fields_of a) (fields_of b)))) (zero-add (deciding_of (fields_of a) (fields_of b)))
+      ∙ ap (λ (n : ℕ). chain (record_rules a b) (chosen_by n one other (lexical_of (fields_of a) (fields_of b))))
+      (zero-add (deciding_of (fields_of a) (fields_of b)))
 
   pub min_decided : and_then (decide_of a b) (chosen_from a b) ≡ min_of a b
   unfolding min_of chosen_by

@@ -1,5 +1,6 @@
 -- An infinity is told by abs alone, minus zero by its one pattern.
-use Rattle.std.proofs.Common.{◌≡◌, ℕ, ◌+◌, ◌-◌, ◌<◌, ◌≤◌, Bool, true, false, ◌||◌, T, eqb, [], ℤ, pos, negsuc, sym, refl, ap, ◌∙◌, inl, inr, arith, eq-eqb, ne_eqb}
+use Rattle.std.proofs.Common.{◌≡◌, ℕ, ◌+◌, ◌-◌, ◌<◌, ◌≤◌, Bool, true, false, ◌||◌, T, eqb, [], ℤ, pos, negsuc, sym, refl, ap, ◌∙◌, inl, inr, arith}
+use Rattle.std.proofs.Common.{eq-eqb, ne_eqb}
 use lib.Ieee.{binary32, binary64}
 use Rattle.float.specs.Format.{Format, f16, f32, f64, fraction_of, exponent_of, sign_of, inf_of, abs_of, infinite_of, inf_in, infinite_in, sign_in}
 use Rattle.float.specs.Number as exact

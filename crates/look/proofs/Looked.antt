@@ -1,6 +1,7 @@
 -- Looking at the blocks is looking at the whole: a fold over joined lists. Below 2^64 its counts are those of the samples, and its answer is
 -- the row's: the first sample that is refused decides.
-use Rattle.std.proofs.Common.{◌≡◌, ℕ, suc, ◌+◌, ◌^◌, ◌<◌, ◌≤◌, Bool, true, false, cond, not, List, [], ◌∷◌, ◌++◌, length, sym, refl, ap, ◌∙◌, inl, inr, append-nil, add-zero, mod-eq_of_lt, zero-add, add-one, arith, lit≤, eq-eqb, ne_eqb}
+use Rattle.std.proofs.Common.{◌≡◌, ℕ, suc, ◌+◌, ◌^◌, ◌<◌, ◌≤◌, Bool, true, false, cond, not, List, [], ◌∷◌, ◌++◌, length, sym, refl, ap, ◌∙◌, inl}
+use Rattle.std.proofs.Common.{inr, append-nil, add-zero, mod-eq_of_lt, zero-add, add-one, arith, lit≤, eq-eqb, ne_eqb}
 use native.Mathlib.Nat.{zero-mod}
 use Rattle.float.proofs.Naturals.{lt_or_ge}
 use Rattle.value.specs.declared.Kind.{Kind}
@@ -16,7 +17,8 @@ use Rattle.sample.specs.Samples.{count_of, left_of, samples_of, counted, joined,
 use Rattle.sample.specs.Refusals.{bits_to, answer_of, refused_to}
 use Rattle.sample.proofs.Samplings.{length_samples}
 use Rattle.sample.proofs.Joining.{left_joined, samples_of_joined, small, no_samples}
-use Rattle.look.specs.Report.{unlike_itself, infinite, minus_zero, lower_of, higher_of, count_if, first_of, noted_of, nothing_seen, all_noted, left_noted, look_of}
+use Rattle.look.specs.Report.{unlike_itself, infinite, minus_zero, lower_of, higher_of, count_if, first_of, noted_of, nothing_seen, all_noted}
+use Rattle.look.specs.Report.{left_noted, look_of}
 use Rattle.look.specs.ReportTheorem.{looked_at, Best, Tells, LooksDecide}
 use Rattle.look.proofs.Best.{best_of, lower_strict, higher_strict}
 use Rattle.look.proofs.Looking.{noted_joined, noted_none, look_whole, look_left}
@@ -138,7 +140,8 @@ module _ (from to : Kind) (p : List ℕ) (short : length p < 2 ^ 64) where
 
   -- what the counts are of all samples
   counted_all : (count : Seen → ℕ) (test : Value → Bool)
-      → ((s : Seen) (v : Value) → count (noted_of to s v) ≡ count_if (test v) (count s)) → count nothing_seen ≡ 0 → count all ≡ how_many test (samples_of from p)
+      → ((s : Seen) (v : Value) → count (noted_of to s v) ≡ count_if (test v) (count s)) →
+      count nothing_seen ≡ 0 → count all ≡ how_many test (samples_of from p)
   counted_all count test step begun =
       all_counted to count test step nothing_seen (samples_of from p) (rw begun few)
       ∙ ap (λ (n : ℕ). n + how_many test (samples_of from p)) begun

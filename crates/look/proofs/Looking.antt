@@ -1,5 +1,6 @@
 -- What was seen grows sample by sample; so looking at a block behind another is looking at both joined.
-use Rattle.std.proofs.Common.{◌≡◌, ℕ, ◌+◌, ◌<◌, Bool, true, false, cond, List, [], ◌∷◌, ◌++◌, length, get_or, take, sym, refl, ap, ◌∙◌, true≢false, add-one, take-suc, eq-eqb, ne_eqb}
+use Rattle.std.proofs.Common.{◌≡◌, ℕ, ◌+◌, ◌<◌, Bool, true, false, cond, List, [], ◌∷◌, ◌++◌, length, get_or, take, sym, refl, ap, ◌∙◌, true≢false}
+use Rattle.std.proofs.Common.{add-one, take-suc, eq-eqb, ne_eqb}
 use Rattle.value.specs.declared.Kind.{Kind}
 use Rattle.value.specs.declared.Value.{Value}
 use Rattle.value.specs.Outcome.{Outcome, gives, refuses}
@@ -17,7 +18,8 @@ use Rattle.look.specs.Report.{noted_of, all_noted, left_noted, look_of}
 
 module _ (test : Value → Value → Outcome Bool) {f : Found} (v : Value) {t : Bool} where
   pub better_first : f ≡ Nothing → t ≡ unlike_itself v → cond t f (Is v) ≡ better_of test f v
-  better_first p q = ap (λ (b : Bool). cond b f (Is v)) q ∙ ap (λ (g : Found). cond (unlike_itself v) g (Is v)) p ∙ sym (ap (λ (g : Found). better_of test g v) p)
+  better_first p q =
+      ap (λ (b : Bool). cond b f (Is v)) q ∙ ap (λ (g : Found). cond (unlike_itself v) g (Is v)) p ∙ sym (ap (λ (g : Found). better_of test g v) p)
 
   pub better_next : {a : Value} → f ≡ Is a → t ≡ says (test v a) → cond t (Is v) (Is a) ≡ better_of test f v
   better_next {a} p q = ap (λ (b : Bool). cond b (Is v) (Is a)) q ∙ sym (ap (λ (g : Found). better_of test g v) p)

@@ -3,7 +3,8 @@ ghost use Rattle.std.specs.Prelude.{◌≡◌, if◌then◌else◌};
 ghost use Rattle.cmp.specs.Compare.{tested_outcome};
 ghost use Rattle.sample.specs.Samples.{samples_of};
 ghost use Rattle.sample.specs.Refusals.{bits_to, refused_to};
-ghost use Rattle.look.specs.Report.{says, unlike_itself, infinite, minus_zero, lower_of, higher_of, count_if, first_of, noted_of, all_noted, left_noted, look_of};
+ghost use Rattle.look.specs.Report.{says, unlike_itself, infinite, minus_zero, lower_of, higher_of, count_if, first_of, noted_of, all_noted};
+ghost use Rattle.look.specs.Report.{left_noted, look_of};
 
 use crate::{Found, Seen};
 use cmp::{Tested, gt, lt, ne};

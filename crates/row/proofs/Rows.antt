@@ -87,12 +87,14 @@ module _ {A B : Type 0} (conv : A → Outcome B) (test : A → Bool) (f : A → 
         (sym o, q ∙ sym r.1 ∙ sym (given_fills (λ (d : Success). row_results conv s) old o fills))
 
 -- a row in which no sample is refused has as many results
-pub results_length : {A B : Type 0} (conv : A → Outcome B) (at : ℕ) (xs : List A) → row_answer conv at xs ≡ gives done → length (row_results conv xs) ≡ length xs
+pub results_length : {A B : Type 0} (conv : A → Outcome B) (at : ℕ) (xs : List A) →
+    row_answer conv at xs ≡ gives done → length (row_results conv xs) ≡ length xs
 unfolding row_answer row_results
 results_length conv at [] h = refl
 results_length {A} {B} conv at (x ∷ xs) h = go (conv x) h (λ k. results_length conv (suc at) xs k)
   where
     go : (o : Outcome B) → sample_then at o (row_answer conv (suc at) xs) ≡ gives done
-        → (row_answer conv (suc at) xs ≡ gives done → length (row_results conv xs) ≡ length xs) → length (sample_before o (row_results conv xs)) ≡ suc (length xs)
+        → (row_answer conv (suc at) xs ≡ gives done → length (row_results conv xs) ≡ length xs) →
+        length (sample_before o (row_results conv xs)) ≡ suc (length xs)
     go (gives y) k rest = ap suc (rest k)
     go (refuses m p) k rest = clash cc

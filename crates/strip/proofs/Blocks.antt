@@ -1,5 +1,6 @@
 -- Two blocks told one after the other are told as both joined: what is taken is the front of all numbers, and the counts, which wrap, add up.
-use Rattle.std.proofs.Common.{◌≡◌, ℕ, zero, suc, ◌+◌, ◌-◌, ◌/◌, ◌^◌, min, Bool, List, [], ◌∷◌, ◌++◌, length, take, sym, refl, ap, ◌∙◌, inl, inr, append-nil, le_of_lt, add_assoc, arith, length-append, take_all}
+use Rattle.std.proofs.Common.{◌≡◌, ℕ, zero, suc, ◌+◌, ◌-◌, ◌/◌, ◌^◌, min, Bool, List, [], ◌∷◌, ◌++◌, length, take, sym, refl, ap, ◌∙◌, inl, inr}
+use Rattle.std.proofs.Common.{append-nil, le_of_lt, add_assoc, arith, length-append, take_all}
 use native.Mathlib.Nat.{zero-sub, sub-zero, suc-sub-suc, mod-add-mod, min-eq_left, min-eq_right}
 use Rattle.float.specs.Format.{zero_of, subnormal_of, normal_of, infinite_of, nan_of}
 use Rattle.float.proofs.Naturals.{lt_or_ge}
@@ -44,7 +45,8 @@ taken_joined n p b whole =
 
 -- ---- blocks
 
-pub counts_joined : {A : Type 0} (test : A → Bool) (n : ℕ) (a b : List A) → counted (counted (n + how_many test a) + how_many test b) ≡ counted (n + how_many test (a ++ b))
+pub counts_joined : {A : Type 0} (test : A → Bool) (n : ℕ) (a b : List A) →
+    counted (counted (n + how_many test a) + how_many test b) ≡ counted (n + how_many test (a ++ b))
 counts_joined test n a b =
     mod-add-mod (n + how_many test a) (2 ^ 64) (how_many test b)
     ∙ ap counted (add_assoc n (how_many test a) (how_many test b) ∙ ap (λ (m : ℕ). n + m) (sym (many_joined test a b)))

@@ -1,5 +1,6 @@
 -- The loops over the places of two blocks, one place after the other: how many differ, the largest distance, and the first that differs.
-use Rattle.std.proofs.Common.{◌≡◌, ℕ, ◌+◌, ◌*◌, ◌<◌, ◌≤◌, max, Bool, true, false, cond, not, eqb, List, length, get_or, take, drop, refl, ap, ◌∙◌, add-one, arith, eq-eqb, ne_eqb}
+use Rattle.std.proofs.Common.{◌≡◌, ℕ, ◌+◌, ◌*◌, ◌<◌, ◌≤◌, max, Bool, true, false, cond, not, eqb, List, length, get_or, take, drop, refl, ap, ◌∙◌}
+use Rattle.std.proofs.Common.{add-one, arith, eq-eqb, ne_eqb}
 use Rattle.bytewise.specs.Numbers.{from_little_endian}
 use Rattle.row.specs.Row.{first, how_many}
 use Rattle.row.proofs.HowMany.{many_few, many_last}
@@ -53,7 +54,9 @@ module _ (left right : List ℕ) where
       within = rw (length_pairs left right n) inside
 
       pub scan_stop : (a ≡ b → ⊥) → i ≡ first is_different (pairs_in n left right)
-      scan_stop q = reach_stop is_different 0 (pairs_in n left right) i (pair_at left right i) within scanned (here true (ap not (ne_eqb a b q))) ∙ reach_start is_different (pairs_in n left right)
+      scan_stop q =
+          reach_stop is_different 0 (pairs_in n left right) i (pair_at left right i) within scanned (here true (ap not (ne_eqb a b q)))
+          ∙ reach_start is_different (pairs_in n left right)
 
       pub scan_on : a ≡ b → Scanned (i + 1)
       scan_on q = reach_step is_different 0 (pairs_in n left right) i (pair_at left right i) within scanned (here false (ap not (eq-eqb a b q)))

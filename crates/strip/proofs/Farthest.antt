@@ -1,6 +1,8 @@
 -- The lowest and the highest sample, by places. A NaN's place is the end, which passes the test against no place, so a step goes only to the
 -- place of a number; every number's place passes the test against the end, so the end is where nothing was found.
-use Rattle.std.proofs.Common.{◌≡◌, ℕ, ◌+◌, ◌-◌, ◌*◌, ◌^◌, ◌<◌, ◌≤◌, Bool, true, false, cond, not, ◌&&◌, ◌⊎◌, List, [], ◌∷◌, ◌++◌, take, drop, ℤ, pos, negsuc, refl, ap, ◌∙◌, subst, inl, inr, le_antisymm, add-one, arith, lit<, w32, SFits, to_z, of_z, ltb-false, le-ltb, lt-ltb}
+use Rattle.std.proofs.Common.{◌≡◌, ℕ, ◌+◌, ◌-◌, ◌*◌, ◌^◌, ◌<◌, ◌≤◌, Bool, true, false, cond, not, ◌&&◌, ◌⊎◌, List, [], ◌∷◌, ◌++◌, take, drop, ℤ, pos}
+use Rattle.std.proofs.Common.{negsuc, refl, ap, ◌∙◌, subst, inl, inr, le_antisymm, add-one, arith, lit<, w32, SFits, to_z, of_z, ltb-false, le-ltb}
+use Rattle.std.proofs.Common.{lt-ltb}
 use mathlib.Core.Bool.{and-eq-true_iff}
 use borrow.Author.Tests.{not-true}
 use lib.Signed.{mag, lt_z}

@@ -1,5 +1,6 @@
 -- The first place that differs: none before it does, and there is none exactly when a scan comes to the end.
-use Rattle.std.proofs.Common.{◌≡◌, ℕ, zero, suc, ◌+◌, ◌<◌, ◌≤◌, Bool, true, false, cond, List, [], ◌∷◌, ◌++◌, length, get_or, sym, refl, ap, inl, inr, le_of_suc-le-suc, not-suc-le-zero, add_assoc, arith, length-append, le-ltb, lt-ltb}
+use Rattle.std.proofs.Common.{◌≡◌, ℕ, zero, suc, ◌+◌, ◌<◌, ◌≤◌, Bool, true, false, cond, List, [], ◌∷◌, ◌++◌, length, get_or, sym, refl, ap, inl, inr}
+use Rattle.std.proofs.Common.{le_of_suc-le-suc, not-suc-le-zero, add_assoc, arith, length-append, le-ltb, lt-ltb}
 use Rattle.float.proofs.Naturals.{lt_or_ge}
 use Rattle.row.specs.Row.{first, how_many}
 use Rattle.row.proofs.Scan.{first_le, first_hit, first_none}

@@ -1,6 +1,7 @@
 -- Two samples are at distance 0 exactly when their bits are the same, as every pattern has its own position. So the largest distance is 0 exactly when no
 -- place differs.
-use Rattle.std.proofs.Common.{◌≡◌, ℕ, zero, suc, ◌<◌, ◌≤◌, Bool, true, false, cond, not, eqb, ◌⊎◌, List, [], ◌∷◌, length, get_or, ℤ, pos, negsuc, ◌+ℤ◌, ◌-ℤ◌, nat_abs, sym, refl, ap, ◌∙◌, inl, inr, le_of_suc-le-suc, not-suc-le-zero, arith, eq-eqb, eqb-true}
+use Rattle.std.proofs.Common.{◌≡◌, ℕ, zero, suc, ◌<◌, ◌≤◌, Bool, true, false, cond, not, eqb, ◌⊎◌, List, [], ◌∷◌, length, get_or, ℤ, pos, negsuc}
+use Rattle.std.proofs.Common.{◌+ℤ◌, ◌-ℤ◌, nat_abs, sym, refl, ap, ◌∙◌, inl, inr, le_of_suc-le-suc, not-suc-le-zero, arith, eq-eqb, eqb-true}
 use lib.IntN.{+ℤ_idl, +ℤ_invr, -ℤ-+ℤ_cancel}
 use Rattle.float.specs.Format.{position_of}
 use Rattle.float.proofs.Place.{position_injective}

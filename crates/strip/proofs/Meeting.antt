@@ -65,7 +65,8 @@ module _ (s : Difference) (l r c d : List ℕ) where
       → difference_after (difference_after s l r) c d ≡ difference_after s (l ++ c) (r ++ d)
   unfolding difference_after
   difference_joined left right meets =
-      let wide : max (max s.widest (widest_of (shared ls rs))) (widest_of (shared cs ds)) ≡ max s.widest (max (widest_of (shared ls rs)) (widest_of (shared cs ds))) =
+      let wide : max (max s.widest (widest_of (shared ls rs))) (widest_of (shared cs ds))
+      ≡ max s.widest (max (widest_of (shared ls rs)) (widest_of (shared cs ds))) =
       omega arith in
       rw (
         left,

@@ -1,5 +1,6 @@
 -- The places that two lists share: as many as the shorter one has, the one at an index by the two samples there, and joined where the lists are.
-use Rattle.std.proofs.Common.{◌≡◌, ℕ, zero, suc, ◌*◌, ◌<◌, ◌≤◌, min, max, List, [], ◌∷◌, ◌++◌, length, get_or, take, drop, sym, refl, ap, ◌∙◌, le_of_suc-le-suc, not-suc-le-zero, arith, take_all}
+use Rattle.std.proofs.Common.{◌≡◌, ℕ, zero, suc, ◌*◌, ◌<◌, ◌≤◌, min, max, List, [], ◌∷◌, ◌++◌, length, get_or, take, drop, sym, refl, ap, ◌∙◌}
+use Rattle.std.proofs.Common.{le_of_suc-le-suc, not-suc-le-zero, arith, take_all}
 use Rattle.bytewise.specs.Numbers.{from_little_endian}
 use Rattle.sample.specs.Samples.{numbers_in}
 use Rattle.sample.proofs.Samplings.{length_numbers, number_here, numbers_last, numbers_take}

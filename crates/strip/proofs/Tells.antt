@@ -1,5 +1,6 @@
 -- All blocks are seen as one, so what is told of two masters is told of the whole of both behind nothing. No count wraps, for none is above `most`.
-use Rattle.std.proofs.Common.{◌≡◌, ℕ, suc, ◌+◌, ◌/◌, ◌≤◌, min, max, not, ◌⊎◌, List, length, ℤ, pos, negsuc, ◌+ℤ◌, ◌-ℤ◌, nat_abs, sym, refl, ap, ◌∙◌, inl, inr, mod-eq_of_lt, zero-add, arith, eq-eqb, eqb-true}
+use Rattle.std.proofs.Common.{◌≡◌, ℕ, suc, ◌+◌, ◌/◌, ◌≤◌, min, max, not, ◌⊎◌, List, length, ℤ, pos, negsuc, ◌+ℤ◌, ◌-ℤ◌, nat_abs, sym, refl, ap, ◌∙◌}
+use Rattle.std.proofs.Common.{inl, inr, mod-eq_of_lt, zero-add, arith, eq-eqb, eqb-true}
 use borrow.Author.Tests.{not-false}
 use lib.IntN.{+ℤ_comm, -ℤ-+ℤ_cancel}
 use Rattle.float.specs.Format.{position_of}

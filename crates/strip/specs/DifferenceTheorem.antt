@@ -23,7 +23,8 @@ pub record Places : Type 0 where
   -- there are as many as the shorter one has
   pub how_many_lem : (ls rs : List ℕ) → length (shared ls rs) ≡ min (length ls) (length rs)
   -- each has the two samples that stand there
-  pub each : (ls rs : List ℕ) (i : ℕ) (d : Pair) → i < length (shared ls rs) → slice_index_or (shared ls rs) i d ≡ record { left = slice_index ls i; right = slice_index rs i }
+  pub each : (ls rs : List ℕ) (i : ℕ) (d : Pair) → i < length (shared ls rs) →
+      slice_index_or (shared ls rs) i d ≡ record { left = slice_index ls i; right = slice_index rs i }
 
 -- no distance is above it, it is one of them unless there is no place, and it is 0 exactly when no place differs
 pub record Largest (ps : List Pair) (w : ℕ) : Type 0 where

@@ -22,7 +22,8 @@ module _ (a b : List ℕ) (i : ℕ) where
   unfolding same_bytes
   same_ends h k = rw (drop_of_length-le a h, drop_of_length-le b k)
 
-  same_next : i < length a → i < length b → same_bytes (drop i a) (drop i b) ≡ (eqb (get_or a i 0) (get_or b i 0) && same_bytes (drop (i + 1) a) (drop (i + 1) b))
+  same_next : i < length a → i < length b →
+      same_bytes (drop i a) (drop i b) ≡ (eqb (get_or a i 0) (get_or b i 0) && same_bytes (drop (i + 1) a) (drop (i + 1) b))
   unfolding same_bytes
   same_next h k = rw (drop-cons a i 0 h, drop-cons b i 0 k, add-one)
 

@@ -9,13 +9,13 @@ use Rattle.block.proofs.passes.first_refused.Goals as goal
 use Rattle.block.proofs.passes.first_refused.Goals.{After-is_refused, In-loop-i}
 
 tested : (c : After-is_refused)
-    → (     let a = c.args in
+    → (let a = c.args in
     refused_to a.to (sample_at a.from a.src.now c.loop-i.i) ≡ c.is_refused.result)
 tested c =
     let a = c.args in
     ap (refused_to a.to) (sym c.sample_at.ensures) ∙ sym c.is_refused.ensures
 
-below : (c : In-loop-i) → ( let a = c.args in c.loop-i.i < length (samples_of a.from a.src.now))
+below : (c : In-loop-i) → (let a = c.args in c.loop-i.i < length (samples_of a.from a.src.now))
 below c =
     let a = c.args in
     omega (arith, length_samples a.from (count_of a.from a.src.now) a.src.now, c.requires, c.loop-i-test.true)

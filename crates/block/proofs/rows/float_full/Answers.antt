@@ -12,14 +12,13 @@ use Rattle.block.proofs.rows.float_full.Goals as goal
 use Rattle.block.proofs.rows.float_full.Goals.{In-loop-i}
 
 pub loop-i-init : goal.loop-i-init
-loop-i-init c =
-    (
-      omega arith,
-      omega (arith, c.requires.0),
-      c.requires.1,
-      c.requires.2,
-      fill_none kind.F32 floated_bits (numbers_in 2 c.args.samples c.args.src.now) c.args.dst.now 0,
-    )
+loop-i-init c = (
+  omega arith,
+  omega (arith, c.requires.0),
+  c.requires.1,
+  c.requires.2,
+  fill_none kind.F32 floated_bits (numbers_in 2 c.args.samples c.args.src.now) c.args.dst.now 0,
+)
 
 pub loop-i-preserved : goal.loop-i-preserved
 loop-i-preserved c =

@@ -12,7 +12,8 @@ use Rattle.block.proofs.rows.float_full.Given as goal
 
 abbrev pub invariant-loop-i : goal.invariant-loop-i
 invariant-loop-i l =
-    (l.i ≤ l.samples) × ((l.samples - l.i) % 16 ≡ 0) × (length l.wide ≡ 16) × (length l.reals ≡ 16) × (Filled kind.F32 floated_bits (numbers_in 2 l.samples l.src) l.initial.dst 0 l.dst l.i)
+    (l.i ≤ l.samples) × ((l.samples - l.i) % 16 ≡ 0) × (length l.wide ≡ 16) × (length l.reals ≡ 16)
+    × (Filled kind.F32 floated_bits (numbers_in 2 l.samples l.src) l.initial.dst 0 l.dst l.i)
 
 abbrev pub decreases-loop-i : goal.decreases-loop-i
 decreases-loop-i l = l.samples - l.i

@@ -33,18 +33,23 @@ many : (c : After-load_u16s)
 many c = let a = c.args in ap length (numbers c) ∙ length_numbers 2 (length a.wide.now) a.src.now
 
 casts : (c : After-u16_to_f32)
-    → ( c.u16_to_f32.new.dst ≡ map as_f32 c.load_u16s.new.row)
+    → (c.u16_to_f32.new.dst ≡ map as_f32 c.load_u16s.new.row)
 casts c =
     c.u16_to_f32.ensures.exit
     ∙ floated_row c.load_u16s.new.row c.args.reals.now (ap length (c.load_u16s.ensures ∙ map_same (numbers_in 2 (length c.args.wide.now) c.args.src.now))
     ∙ length_numbers 2 (length c.args.wide.now) c.args.src.now ∙ c.requires.1)
-    (loaded_small c.args.src.now (length c.args.wide.now) (c.load_u16s.ensures ∙ map_same (numbers_in 2 (length c.args.wide.now) c.args.src.now)) (λ i. (c.type_inv.src i).fits))
+    (loaded_small c.args.src.now (length c.args.wide.now) (c.load_u16s.ensures
+    ∙ map_same (numbers_in 2 (length c.args.wide.now) c.args.src.now)) (λ i. (c.type_inv.src i).fits))
 
 pub store_f32s-requires : goal.store_f32s-requires
 store_f32s-requires c =
     let w = c.load_u16s.new.row in (
-      ap (any is_nan) (casts ((goal.at.store_f32s-requires c).After-u16_to_f32)) ∙ casts_numbers w (loaded_small c.args.src.now (length c.args.wide.now) (c.load_u16s.ensures ∙ map_same (numbers_in 2 (length c.args.wide.now) c.args.src.now)) (λ i. (c.type_inv.src i).fits)),
-      rw (ap length (casts ((goal.at.store_f32s-requires c).After-u16_to_f32)) ∙ length-map w as_f32 ∙ many ((goal.at.store_f32s-requires c).After-load_u16s)) c.requires.2,
+      ap (any is_nan) (casts ((goal.at.store_f32s-requires c).After-u16_to_f32))
+          ∙ casts_numbers w
+          (loaded_small c.args.src.now (length c.args.wide.now) (c.load_u16s.ensures
+          ∙ map_same (numbers_in 2 (length c.args.wide.now) c.args.src.now)) (λ i. (c.type_inv.src i).fits)),
+      rw (ap length (casts ((goal.at.store_f32s-requires c).After-u16_to_f32))
+          ∙ length-map w as_f32 ∙ many ((goal.at.store_f32s-requires c).After-load_u16s)) c.requires.2,
     )
 
 pub returns : goal.returns
@@ -53,4 +58,5 @@ returns c =
     let w = c.load_u16s.new.row in
     c.store_f32s.ensures
     ∙ ap (λ (l : List ℕ). sets a.dst.now a.at (bytes_for kind.F32 l))
-    (ap (map plain_bits) (casts ((goal.at.returns c).After-u16_to_f32)) ∙ map_both plain_bits as_f32 w ∙ ap (map floated_bits) (numbers ((goal.at.returns c).After-load_u16s)))
+    (ap (map plain_bits) (casts ((goal.at.returns c).After-u16_to_f32)) ∙ map_both plain_bits as_f32 w
+    ∙ ap (map floated_bits) (numbers ((goal.at.returns c).After-load_u16s)))

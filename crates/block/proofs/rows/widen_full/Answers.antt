@@ -9,7 +9,7 @@ use Rattle.block.proofs.rows.widen_full.Goals as goal
 use Rattle.block.proofs.rows.widen_full.Goals.{In-loop-i}
 
 pub loop-i-init : goal.loop-i-init
-loop-i-init c =     (omega arith, omega (arith, c.requires.0), c.requires.1, fill_none kind.U16 (λ (n : ℕ). n) c.args.src.now c.args.dst.now 0)
+loop-i-init c = (omega arith, omega (arith, c.requires.0), c.requires.1, fill_none kind.U16 (λ (n : ℕ). n) c.args.src.now c.args.dst.now 0)
 
 pub loop-i-preserved : goal.loop-i-preserved
 loop-i-preserved c =

@@ -63,7 +63,8 @@ returns-in_default-b-6 c = c.kinds_differ-in_default-b-6.ensures ∙ compare_ref
 
 pub returns-in-I64-b : goal.returns-in-I64-b
 returns-in-I64-b c =
-    compare_integers c.in-I64.is c.in-I64-b.is refl c.in-I64.m c.in-I64-b.n refl refl (wide_order c.in-I64.m c.in-I64-b.n (search rules) (search rules) c.order_i64-in-I64-b.ensures)
+    compare_integers c.in-I64.is c.in-I64-b.is refl c.in-I64.m c.in-I64-b.n refl refl
+    (wide_order c.in-I64.m c.in-I64-b.n (search rules) (search rules) c.order_i64-in-I64-b.ensures)
 
 pub returns-in_default-b-7 : goal.returns-in_default-b-7
 returns-in_default-b-7 c = c.kinds_differ-in_default-b-7.ensures ∙ compare_refused _ c.in-I64.is c.in_default-b-7.not-I64

@@ -27,7 +27,9 @@ low c = subst (λ (n : ℕ). n < 1024) c.abs_f16-a.ensures c.if-a-lt1024.true
 
 pub with_sign-requires : goal.with_sign-requires
 with_sign-requires c =
-    let last = entry_small (abs_in f16 c.args.b) c.small_f32-bits.result (low ((goal.at.with_sign-requires c).After-small_f32-bits)) (over_own ((goal.at.with_sign-requires c).After-small_f32-bits)) in
+    let last =
+    entry_small (abs_in f16 c.args.b) c.small_f32-bits.result (low ((goal.at.with_sign-requires c).After-small_f32-bits))
+    (over_own ((goal.at.with_sign-requires c).After-small_f32-bits)) in
     (omega (arith, last), lit≤ tt)
 
 pub returns-then-a-lt1024 : goal.returns-then-a-lt1024
@@ -36,4 +38,5 @@ returns-then-a-lt1024 c =
     let sign : cond c.is_sign_negative_f16-s.result (0x8000_0000 + r) r ≡ with_sign f32 (negative_in f16 c.args.b) r =
     ap (λ (t : Bool). cond t (0x8000_0000 + r) r) c.is_sign_negative_f16-s.ensures in
     ap gives (c.f32_value.ensures ∙ ap f32_value (c.with_sign.ensures.0 ∙ sign))
-    ∙ sym (low_moved c.args.b r (low ((goal.at.returns-then-a-lt1024 c).After-small_f32-bits)) (over_own ((goal.at.returns-then-a-lt1024 c).After-small_f32-bits)))
+    ∙ sym (low_moved c.args.b r (low ((goal.at.returns-then-a-lt1024 c).After-small_f32-bits))
+    (over_own ((goal.at.returns-then-a-lt1024 c).After-small_f32-bits)))

@@ -33,11 +33,14 @@ pub returns-then-m-eq0 : goal.returns-then-m-eq0
 returns-then-m-eq0 c = let a = c.args in held_zero a.p a.c a.last a.s a.m a.g c.if-m-eq0.true
 
 pub returns-then-k-last : goal.returns-then-k-last
-returns-then-k-last c = let a = c.args in held_far a.p a.c ((c.args.m * 2 ^ c.args.g)) c.if-digits-kept.k (k_is ((goal.at.returns-then-k-last c).Joined-digits-kept)) a.last a.s c.if-k-last.true
+returns-then-k-last c = let a =
+    c.args in
+    held_far a.p a.c ((c.args.m * 2 ^ c.args.g)) c.if-digits-kept.k (k_is ((goal.at.returns-then-k-last c).Joined-digits-kept)) a.last a.s c.if-k-last.true
 
 pub over-ratio-requires : goal.over-ratio-requires
 over-ratio-requires c =
-    let f : (c.args.m * 2 ^ c.args.g) / 2 ^ (c.if-digits-kept.k + c.args.c) < 2 ^ 53 = digits_few c.args.p _ c.requires.0 (few ((goal.at.over-ratio-requires c).Joined-digits-kept)) in
+    let f : (c.args.m * 2 ^ c.args.g) / 2 ^ (c.if-digits-kept.k + c.args.c) < 2 ^ 53 =
+    digits_few c.args.p _ c.requires.0 (few ((goal.at.over-ratio-requires c).Joined-digits-kept)) in
     (positive ((goal.at.over-ratio-requires c).Joined-digits-kept), omega arith)
 
 near : (c : After-over-ratio) → c.if-digits-kept.k ≤ c.args.last
@@ -76,11 +79,12 @@ pub returns-else-k-last-2 : goal.returns-else-k-last-2
 returns-else-k-last-2 c =
     let j = (goal.at.returns-else-k-last-2 c).Joined-digits-kept in
     let a = c.args in
-    held_none a.p a.c ((c.args.m * 2 ^ c.args.g)) c.if-digits-kept.k (k_is j) a.last a.s (near ((goal.at.returns-else-k-last-2 c).After-over-ratio)) (rest_left ((goal.at.returns-else-k-last-2 c).After-over-ratio) c.if-ratio.true)
+    held_none a.p a.c ((c.args.m * 2 ^ c.args.g)) c.if-digits-kept.k (k_is j) a.last a.s
+    (near ((goal.at.returns-else-k-last-2 c).After-over-ratio)) (rest_left ((goal.at.returns-else-k-last-2 c).After-over-ratio) c.if-ratio.true)
     (inl (omega (arith, c.if-k-last-2.false, near ((goal.at.returns-else-k-last-2 c).After-over-ratio))))
 
 field : (c : After-over-ratio) → c.if-digits-kept.k * 2 ^ c.args.p ≤ 2047 * 2 ^ 52
-field c =  field_small c.if-digits-kept.k c.args.p c.args.last (near c) (omega (arith, c.requires.1)) c.requires.0
+field c = field_small c.if-digits-kept.k c.args.p c.args.last (near c) (omega (arith, c.requires.1)) c.requires.0
 
 pub overflow_add-result : goal.overflow_add-result
 overflow_add-result c =
@@ -97,4 +101,5 @@ returns c =
     let m : c.if-digits-kept.k * 2 ^ a.p % 2 ^ 64 ≡ c.if-digits-kept.k * 2 ^ a.p = mod-eq_of_lt (omega arith) in
     ap (λ (n : ℕ). gives (a.s, n + c.over-ratio.result.quotient)) m
     ∙ ap (λ (n : ℕ). gives (a.s, c.if-digits-kept.k * 2 ^ a.p + n)) c.over-ratio.ensures.0
-    ∙ held_is a.p a.c ((c.args.m * 2 ^ c.args.g)) c.if-digits-kept.k (k_is j) a.last a.s (near ((goal.at.returns c).After-over-ratio)) (nothing_left ((goal.at.returns c).After-over-ratio) c.if-ratio.false)
+    ∙ held_is a.p a.c ((c.args.m * 2 ^ c.args.g)) c.if-digits-kept.k (k_is j) a.last a.s
+    (near ((goal.at.returns c).After-over-ratio)) (nothing_left ((goal.at.returns c).After-over-ratio) c.if-ratio.false)

@@ -26,7 +26,8 @@ unfolding unit
 returns-then-size_of-g-gt1138 c =
     let q = quotient_large c.args.m c.args.g 1074 (some_digit ((goal.at.returns-then-size_of-g-gt1138 c).Else-m-eq0)) (omega (arith, c.size_of.ensures))
     (omega (arith, c.if-size_of-g-gt1138.true, c.size_of.ensures.0)) in
-    whole_large c.args.low c.args.high c.args.s (c.args.m * 2 ^ c.args.g) (some ((goal.at.returns-then-size_of-g-gt1138 c).Else-m-eq0)) c.ranges.low.fits c.ranges.high.fits
+    whole_large c.args.low c.args.high c.args.s (c.args.m * 2 ^ c.args.g)
+    (some ((goal.at.returns-then-size_of-g-gt1138 c).Else-m-eq0)) c.ranges.low.fits c.ranges.high.fits
     q.0 q.1
 
 pub over-ratio-requires : goal.over-ratio-requires
@@ -45,7 +46,9 @@ quotient_is c = c.over-ratio.ensures.0
 pub returns-then-ratio : goal.returns-then-ratio
 returns-then-ratio c =
     let a = c.args in
-    whole_fraction a.low a.high a.s (a.m * 2 ^ a.g) (some ((goal.at.returns-then-ratio c).Else-m-eq0)) (sym (fraction_is ((goal.at.returns-then-ratio c).After-over-ratio)) ∙ c.if-ratio.true)
+    whole_fraction a.low a.high a.s (a.m * 2 ^ a.g) (some ((goal.at.returns-then-ratio c).Else-m-eq0))
+    (sym (fraction_is ((goal.at.returns-then-ratio c).After-over-ratio))
+    ∙ c.if-ratio.true)
 
 limit_is : (c : Joined-s-2) → let a = c.args in c.if-s-2.limit ≡ cond a.s a.low a.high
 limit_is c =
@@ -60,7 +63,9 @@ returns-then-ratio-limit c =
     let l : cond a.s a.low a.high < a.m * 2 ^ a.g / unit =
     subst (λ (n : ℕ). cond a.s a.low a.high < n) (quotient_is ((goal.at.returns-then-ratio-limit c).After-over-ratio))
     (subst (λ (n : ℕ). n < c.over-ratio.result.quotient) (limit_is ((goal.at.returns-then-ratio-limit c).Joined-s-2)) c.if-ratio-limit.true) in
-    whole_outside a.low a.high a.s (a.m * 2 ^ a.g) (some ((goal.at.returns-then-ratio-limit c).Else-m-eq0)) (sym (fraction_is ((goal.at.returns-then-ratio-limit c).After-over-ratio)) ∙ c.if-ratio.false) l
+    whole_outside a.low a.high a.s (a.m * 2 ^ a.g) (some ((goal.at.returns-then-ratio-limit c).Else-m-eq0))
+    (sym (fraction_is ((goal.at.returns-then-ratio-limit c).After-over-ratio))
+    ∙ c.if-ratio.false) l
 
 pub returns : goal.returns
 returns c =

@@ -21,7 +21,9 @@ pub overflow_sub-result : goal.overflow_sub-result
 overflow_sub-result c = neg_fits w64 _ (below ((goal.at.overflow_sub-result c).After-abs_f16-x))
 
 pub returns-then-bits-lt32768 : goal.returns-then-bits-lt32768
-returns-then-bits-lt32768 c = to_z_pos w64 _ (below ((goal.at.returns-then-bits-lt32768 c).After-abs_f16-x)) ∙ signed_clear 10 5 _ c.abs_f16-x.ensures c.if-bits-lt32768.true
+returns-then-bits-lt32768 c =
+    to_z_pos w64 _ (below ((goal.at.returns-then-bits-lt32768 c).After-abs_f16-x)) ∙ signed_clear 10 5 _ c.abs_f16-x.ensures c.if-bits-lt32768.true
 
 pub returns-else-bits-lt32768 : goal.returns-else-bits-lt32768
-returns-else-bits-lt32768 c = neg_back w64 _ (below ((goal.at.returns-else-bits-lt32768 c).After-abs_f16-x)) ∙ signed_set 10 5 _ c.abs_f16-x.ensures c.if-bits-lt32768.false
+returns-else-bits-lt32768 c =
+    neg_back w64 _ (below ((goal.at.returns-else-bits-lt32768 c).After-abs_f16-x)) ∙ signed_set 10 5 _ c.abs_f16-x.ensures c.if-bits-lt32768.false

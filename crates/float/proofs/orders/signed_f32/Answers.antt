@@ -21,7 +21,9 @@ pub overflow_sub-result : goal.overflow_sub-result
 overflow_sub-result c = neg_fits w64 _ (below ((goal.at.overflow_sub-result c).After-abs_f32-x))
 
 pub returns-then-bits-lt2147483648 : goal.returns-then-bits-lt2147483648
-returns-then-bits-lt2147483648 c = to_z_pos w64 _ (below ((goal.at.returns-then-bits-lt2147483648 c).After-abs_f32-x)) ∙ signed_clear 23 8 _ c.abs_f32-x.ensures c.if-bits-lt2147483648.true
+returns-then-bits-lt2147483648 c =
+    to_z_pos w64 _ (below ((goal.at.returns-then-bits-lt2147483648 c).After-abs_f32-x)) ∙ signed_clear 23 8 _ c.abs_f32-x.ensures c.if-bits-lt2147483648.true
 
 pub returns-else-bits-lt2147483648 : goal.returns-else-bits-lt2147483648
-returns-else-bits-lt2147483648 c = neg_back w64 _ (below ((goal.at.returns-else-bits-lt2147483648 c).After-abs_f32-x)) ∙ signed_set 23 8 _ c.abs_f32-x.ensures c.if-bits-lt2147483648.false
+returns-else-bits-lt2147483648 c =
+    neg_back w64 _ (below ((goal.at.returns-else-bits-lt2147483648 c).After-abs_f32-x)) ∙ signed_set 23 8 _ c.abs_f32-x.ensures c.if-bits-lt2147483648.false

@@ -21,7 +21,11 @@ pub overflow_sub-result : goal.overflow_sub-result
 overflow_sub-result c = neg_fits w64 _ (below ((goal.at.overflow_sub-result c).After-abs_f64-x))
 
 pub returns-then-bits-lt9223372036854775808 : goal.returns-then-bits-lt9223372036854775808
-returns-then-bits-lt9223372036854775808 c = to_z_pos w64 _ (below ((goal.at.returns-then-bits-lt9223372036854775808 c).After-abs_f64-x)) ∙ signed_clear 52 11 _ c.abs_f64-x.ensures c.if-bits-lt9223372036854775808.true
+returns-then-bits-lt9223372036854775808 c =
+    to_z_pos w64 _ (below ((goal.at.returns-then-bits-lt9223372036854775808 c).After-abs_f64-x))
+    ∙ signed_clear 52 11 _ c.abs_f64-x.ensures c.if-bits-lt9223372036854775808.true
 
 pub returns-else-bits-lt9223372036854775808 : goal.returns-else-bits-lt9223372036854775808
-returns-else-bits-lt9223372036854775808 c = neg_back w64 _ (below ((goal.at.returns-else-bits-lt9223372036854775808 c).After-abs_f64-x)) ∙ signed_set 52 11 _ c.abs_f64-x.ensures c.if-bits-lt9223372036854775808.false
+returns-else-bits-lt9223372036854775808 c =
+    neg_back w64 _ (below ((goal.at.returns-else-bits-lt9223372036854775808 c).After-abs_f64-x))
+    ∙ signed_set 52 11 _ c.abs_f64-x.ensures c.if-bits-lt9223372036854775808.false

@@ -11,9 +11,8 @@ use Rattle.record.proofs.Shaping.{places_from, one_more, filled}
 use Rattle.record.proofs.shapes.shape_for.Goals as goal
 
 pub loop-at-preserved : goal.loop-at-preserved
-loop-at-preserved c =
-    (
-      omega arith,
-      rw c.loop-at.invariant.1
-          (one_more c.args.r _ (search rules) (omega arith) (c.kind_of.ensures ∙ ap kind_of c.value_at.ensures)),
-    )
+loop-at-preserved c = (
+  omega arith,
+  rw c.loop-at.invariant.1
+      (one_more c.args.r _ (search rules) (omega arith) (c.kind_of.ensures ∙ ap kind_of c.value_at.ensures)),
+)

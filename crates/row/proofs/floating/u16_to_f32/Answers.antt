@@ -8,7 +8,8 @@ use borrow.Author.Rules.{rules}
 use Rattle.row.proofs.floating.u16_to_f32.Goals as goal
 
 pub returns-then-src-dst : goal.returns-then-src-dst
-returns-then-src-dst c = let a = c.args in let both = lengths_differ_lem u16_to_f32 a.src.now a.dst.now c.if-src-dst.true in record { answer = both.0; exit = both.1 }
+returns-then-src-dst c = let a = c.args in let both =
+    lengths_differ_lem u16_to_f32 a.src.now a.dst.now c.if-src-dst.true in record { answer = both.0; exit = both.1 }
 
 pub returns : goal.returns
 returns c =

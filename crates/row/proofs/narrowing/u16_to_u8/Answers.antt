@@ -8,7 +8,8 @@ use borrow.Author.Rules.{rules}
 use Rattle.row.proofs.narrowing.u16_to_u8.Goals as goal
 
 pub returns-then-src-dst : goal.returns-then-src-dst
-returns-then-src-dst c = let a = c.args in let both = lengths_differ_lem u16_to_u8 a.src.now a.dst.now c.if-src-dst.true in record { answer = both.0; exit = both.1 }
+returns-then-src-dst c = let a = c.args in let both =
+    lengths_differ_lem u16_to_u8 a.src.now a.dst.now c.if-src-dst.true in record { answer = both.0; exit = both.1 }
 
 pub returns-then-at-src : goal.returns-then-at-src
 returns-then-at-src c =
@@ -19,8 +20,11 @@ returns-then-at-src c =
 
 pub narrow_all-requires : goal.narrow_all-requires
 narrow_all-requires c =
-    record { same_length = c.if-src-dst.false; all_fit = first_all is_wide c.args.src.now c.first_wide-at.result
-          c.first_wide-at.ensures c.if-at-src.false }
+    record {
+      same_length = c.if-src-dst.false;
+      all_fit = first_all is_wide c.args.src.now c.first_wide-at.result
+          c.first_wide-at.ensures c.if-at-src.false;
+    }
 
 pub returns : goal.returns
 returns c =

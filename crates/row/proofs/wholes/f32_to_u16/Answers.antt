@@ -9,7 +9,8 @@ use borrow.Author.Rules.{rules}
 use Rattle.row.proofs.wholes.f32_to_u16.Goals as goal
 
 pub returns-then-src-dst : goal.returns-then-src-dst
-returns-then-src-dst c = let a = c.args in let both = lengths_differ_lem f32_to_u16 a.src.now a.dst.now c.if-src-dst.true in record { answer = both.0; exit = both.1 }
+returns-then-src-dst c = let a = c.args in let both =
+    lengths_differ_lem f32_to_u16 a.src.now a.dst.now c.if-src-dst.true in record { answer = both.0; exit = both.1 }
 
 pub refusal_of-requires : goal.refusal_of-requires
 refusal_of-requires c =
@@ -26,8 +27,11 @@ returns-then-at-src c =
 
 pub whole_all-requires : goal.whole_all-requires
 whole_all-requires c =
-    record { same_length = c.if-src-dst.false; all_fit = first_all is_misfit c.args.src.now c.first_misfit-at.result
-          c.first_misfit-at.ensures c.if-at-src.false }
+    record {
+      same_length = c.if-src-dst.false;
+      all_fit = first_all is_misfit c.args.src.now c.first_misfit-at.result
+          c.first_misfit-at.ensures c.if-at-src.false;
+    }
 
 pub returns : goal.returns
 returns c =

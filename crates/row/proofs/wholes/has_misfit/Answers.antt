@@ -14,9 +14,8 @@ pub loop-i-init : goal.loop-i-init
 loop-i-init c = (omega arith, none_yet is_misfit c.args.part.now)
 
 pub loop-i-preserved : goal.loop-i-preserved
-loop-i-preserved c =
-    (
-      omega arith,
-      cc (c.loop-i.invariant.1, c.is_misfit-found.ensures)
-          ∙ any_step is_misfit c.args.part.now c.loop-i.i nan c.loop-i-test.true,
-    )
+loop-i-preserved c = (
+  omega arith,
+  cc (c.loop-i.invariant.1, c.is_misfit-found.ensures)
+      ∙ any_step is_misfit c.args.part.now c.loop-i.i nan c.loop-i-test.true,
+)

@@ -22,7 +22,8 @@ returns-then-abs-gt2139095040 c =
 
 pub returns-then-abs-eq2139095040 : goal.returns-then-abs-eq2139095040
 returns-then-abs-eq2139095040 c =
-    refused_infinity c.args.x (search rules) c.abs_f32-abs.result (own_abs ((goal.at.returns-then-abs-eq2139095040 c).After-abs_f32-abs)) c.if-abs-eq2139095040.true
+    refused_infinity c.args.x (search rules) c.abs_f32-abs.result
+    (own_abs ((goal.at.returns-then-abs-eq2139095040 c).After-abs_f32-abs)) c.if-abs-eq2139095040.true
 
 below : (c : Else-abs-eq2139095040) → c.abs_f32-abs.result < 0x7f80_0000
 below c = let h = c.if-abs-gt2139095040.false in let n = c.if-abs-eq2139095040.false in omega arith
@@ -36,17 +37,23 @@ other c q = c.if-bits.false (c.bits_f32-bits.ensures ∙ bits_are c.args.x ∙ q
 
 pub returns-then-abs-ge1258291200 : goal.returns-then-abs-ge1258291200
 returns-then-abs-ge1258291200 c =
-    refused_large c.args.x (search rules) c.requires (other ((goal.at.returns-then-abs-ge1258291200 c).Else-bits)) c.abs_f32-abs.result (own_abs ((goal.at.returns-then-abs-ge1258291200 c).After-abs_f32-abs)) (below ((goal.at.returns-then-abs-ge1258291200 c).Else-abs-eq2139095040)) c.if-abs-ge1258291200.true
+    refused_large c.args.x (search rules) c.requires (other ((goal.at.returns-then-abs-ge1258291200 c).Else-bits)) c.abs_f32-abs.result
+    (own_abs ((goal.at.returns-then-abs-ge1258291200 c).After-abs_f32-abs))
+    (below ((goal.at.returns-then-abs-ge1258291200 c).Else-abs-eq2139095040)) c.if-abs-ge1258291200.true
 
 pub float_from_bits-abs : goal.float_from_bits-abs
 float_from_bits-abs c = plain_float c.abs_f32-abs.result c.if-abs-ge1258291200.false
 
 pub returns-then-is_whole : goal.returns-then-is_whole
 returns-then-is_whole c =
-    refused_whole c.args.x (search rules) c.requires (other ((goal.at.returns-then-is_whole c).Else-bits)) c.abs_f32-abs.result (own_abs ((goal.at.returns-then-is_whole c).After-abs_f32-abs)) (below ((goal.at.returns-then-is_whole c).Else-abs-eq2139095040)) c.if-abs-ge1258291200.false
+    refused_whole c.args.x (search rules) c.requires (other ((goal.at.returns-then-is_whole c).Else-bits)) c.abs_f32-abs.result
+    (own_abs ((goal.at.returns-then-is_whole c).After-abs_f32-abs))
+    (below ((goal.at.returns-then-is_whole c).Else-abs-eq2139095040)) c.if-abs-ge1258291200.false
     (sym c.is_whole.ensures ∙ c.if-is_whole.true)
 
 pub returns-else-is_whole : goal.returns-else-is_whole
 returns-else-is_whole c =
-    refused_fraction c.args.x (search rules) c.requires (other ((goal.at.returns-else-is_whole c).Else-bits)) c.abs_f32-abs.result (own_abs ((goal.at.returns-else-is_whole c).After-abs_f32-abs)) (below ((goal.at.returns-else-is_whole c).Else-abs-eq2139095040)) c.if-abs-ge1258291200.false
+    refused_fraction c.args.x (search rules) c.requires (other ((goal.at.returns-else-is_whole c).Else-bits)) c.abs_f32-abs.result
+    (own_abs ((goal.at.returns-else-is_whole c).After-abs_f32-abs))
+    (below ((goal.at.returns-else-is_whole c).Else-abs-eq2139095040)) c.if-abs-ge1258291200.false
     (sym c.is_whole.ensures ∙ c.if-is_whole.false)

@@ -8,5 +8,7 @@ loop-i-init c = (omega arith, none_wide _ _)
 
 pub loop-i-preserved : goal.loop-i-preserved
 loop-i-preserved c =
-    let a = c.args in
-    (omega arith, next_widest a.left.now a.right.now c.loop-i.i c.word_at.ensures c.word_at-in-loop-i.ensures c.loop-i.invariant.1 c.apart.ensures c.larger-widest.ensures)
+    let a = c.args in (
+      omega arith,
+      next_widest a.left.now a.right.now c.loop-i.i c.word_at.ensures c.word_at-in-loop-i.ensures c.loop-i.invariant.1 c.apart.ensures c.larger-widest.ensures,
+    )
