@@ -1,3 +1,2 @@
 // The three demands as theorems over the definitions, and the marked cases as one list. No code.
 #![tactic(auto)]
-
