@@ -15,17 +15,3 @@ overflow_cast-x c = record { sfits = below c }
 
 pub overflow_sub-result : goal.overflow_sub-result
 overflow_sub-result c = neg_fits w16 _ (below ((goal.at.overflow_sub-result c).After-abs_f16-x))
-<<<<<<< HEAD
-=======
-
-pub overflow_sub-result-else-bits-lt32768 : goal.overflow_sub-result-else-bits-lt32768
-overflow_sub-result-else-bits-lt32768 c = down_fits w16 _ (below ((goal.at.overflow_sub-result-else-bits-lt32768 c).After-abs_f16-x))
-
-pub returns-then-bits-lt32768 : goal.returns-then-bits-lt32768
-returns-then-bits-lt32768 c =
-    to_z_pos w16 _ (below ((goal.at.returns-then-bits-lt32768 c).After-abs_f16-x)) ∙ position_clear 10 5 _ c.abs_f16-x.ensures c.if-bits-lt32768.true
-
-pub returns-else-bits-lt32768 : goal.returns-else-bits-lt32768
-returns-else-bits-lt32768 c =
-    down_back w16 _ (below ((goal.at.returns-else-bits-lt32768 c).After-abs_f16-x)) ∙ position_set 10 5 _ c.abs_f16-x.ensures c.if-bits-lt32768.false
->>>>>>> b8c9cf7e12b56f6d49ca33ed92e94952ead77003

@@ -15,20 +15,3 @@ overflow_cast-x c = record { sfits = below c }
 
 pub overflow_sub-result : goal.overflow_sub-result
 overflow_sub-result c = neg_fits w64 _ (below ((goal.at.overflow_sub-result c).After-abs_f64-x))
-<<<<<<< HEAD
-=======
-
-pub overflow_sub-result-else-bits-lt9223372036854775808 : goal.overflow_sub-result-else-bits-lt9223372036854775808
-overflow_sub-result-else-bits-lt9223372036854775808 c =
-    down_fits w64 _ (below ((goal.at.overflow_sub-result-else-bits-lt9223372036854775808 c).After-abs_f64-x))
-
-pub returns-then-bits-lt9223372036854775808 : goal.returns-then-bits-lt9223372036854775808
-returns-then-bits-lt9223372036854775808 c =
-    to_z_pos w64 _ (below ((goal.at.returns-then-bits-lt9223372036854775808 c).After-abs_f64-x))
-    ∙ position_clear 52 11 _ c.abs_f64-x.ensures c.if-bits-lt9223372036854775808.true
-
-pub returns-else-bits-lt9223372036854775808 : goal.returns-else-bits-lt9223372036854775808
-returns-else-bits-lt9223372036854775808 c =
-    down_back w64 _ (below ((goal.at.returns-else-bits-lt9223372036854775808 c).After-abs_f64-x))
-    ∙ position_set 52 11 _ c.abs_f64-x.ensures c.if-bits-lt9223372036854775808.false
->>>>>>> b8c9cf7e12b56f6d49ca33ed92e94952ead77003
