@@ -1,5 +1,5 @@
 -- The four pairs that have row calls: each sample converts in its row as it does in its block, so the block is answered as its rows are.
-use Rattle.std.proofs.Common.{◌≡◌, ℕ, zero, suc, ◌+◌, ◌/◌, ◌^◌, ◌<◌, ◌≤◌, Bool, false, not, T, List, [], ◌∷◌, ◌++◌, map, length, get_or, take, drop}
+use Rattle.std.proofs.Common.{◌≡◌, ℕ, zero, suc, ◌/◌, ◌^◌, ◌<◌, ◌≤◌, Bool, false, not, T, List, [], ◌∷◌, ◌++◌, map, length, get_or, take, drop}
 use Rattle.std.proofs.Common.{pos, sym, refl, ap, ◌∙◌, subst, le_of_suc-le-suc, not-suc-le-zero, mod-eq_of_lt, zero-add, div-one, arith}
 use Rattle.std.proofs.Common.{take-append-drop, length-take-le}
 use lib.Seq.{sets, sets-eq}

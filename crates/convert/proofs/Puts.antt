@@ -12,7 +12,6 @@ use Rattle.float.specs.Number.{Exact, not_number, infinite, finite, signed_of}
 use Rattle.value.specs.declared.Kind.{Kind}
 use Rattle.value.specs.declared.Kind.TheVariants as kind
 use Rattle.value.specs.declared.Value.{Value}
-use Rattle.value.specs.declared.Value.TheVariants.{U8, U16, U32, U64, I8, I16, I32, I64}
 use Rattle.value.specs.Kinds.{Form, unsigned, signed, floating, form_of}
 use Rattle.value.specs.Meaning.{unit, step_of}
 use Rattle.value.specs.Outcome.{Outcome, gives, refuses, refuse_if, mapped}

@@ -1,6 +1,5 @@
 -- The kinds' numbers are one, or they differ.
 use mathlib.Core.Path.{◌≡◌, sym, ◌∙◌, ap}
-use borrow.Author.Rules.{rules}
 use Rattle.value.specs.Kinds.{kind_of, kind_number}
 use Rattle.value.specs.declared.Kind.{Kind}
 use Rattle.value.specs.declared.Kind.TheVariants as kind

@@ -1,12 +1,8 @@
 -- Up to i the row is clamped, from i on it is what came in.
-use mathlib.Core.Path.{refl, ◌∙◌, ap}
-use Prim.Native.Nat.{◌-◌, ◌<◌}
-use native.Mathlib.Omega.{arith}
+use Prim.Native.Nat.{◌-◌}
 use lib.ListN.{length}
-use lib.Ieee.{nan}
 use Rattle.rowclamp.specs.Inner.{clamped_float}
-use Rattle.row.proofs.Written.{Written, write_step, write_end, in_place}
-use borrow.Author.Rules.{rules}
+use Rattle.row.proofs.Written.{Written}
 use Rattle.rowclamp.proofs.clamp_all.Given as goal
 
 abbrev pub invariant-loop-i : goal.invariant-loop-i

@@ -4,10 +4,9 @@ use mathlib.Core.Bool.{false}
 use Prim.Native.Nat.{ℕ, ◌+◌, ◌-◌, ◌≤◌}
 use native.Mathlib.Omega.{arith}
 use lib.ListN.{length, take, drop}
-use Rattle.row.specs.Row.{first, any}
+use Rattle.row.specs.Row.{any}
 use Rattle.rowclamp.specs.Inner.{is_not_self}
 use Rattle.row.proofs.Scan.{reach_block}
-use borrow.Author.Rules.{rules}
 use Rattle.rowclamp.proofs.first_nan.Goals as goal
 
 pub loop-i-preserved : goal.loop-i-preserved

@@ -1,10 +1,7 @@
 -- Up to i no sample differs from itself.
-use Prim.Native.Nat.{◌-◌}
-use lib.ListN.{length}
 use lib.Ieee.{nan}
 use Rattle.rowclamp.specs.Inner.{is_not_self}
-use Rattle.row.proofs.Scan.{Reached, reach_step, reach_stop, reach_end}
-use borrow.Author.Rules.{rules}
+use Rattle.row.proofs.Scan.{reach_step, reach_stop, reach_end}
 use Rattle.rowclamp.proofs.first_nan_from.Goals as goal
 
 pub returns-then-x : goal.returns-then-x

@@ -1,10 +1,8 @@
 -- Up to i no sample differs from itself.
 use Prim.Native.Nat.{◌-◌}
 use lib.ListN.{length}
-use lib.Ieee.{nan}
 use Rattle.rowclamp.specs.Inner.{is_not_self}
-use Rattle.row.proofs.Scan.{Reached, reach_step, reach_stop, reach_end}
-use borrow.Author.Rules.{rules}
+use Rattle.row.proofs.Scan.{Reached}
 use Rattle.rowclamp.proofs.first_nan_from.Given as goal
 
 abbrev pub invariant-loop-i : goal.invariant-loop-i

@@ -1,14 +1,11 @@
 -- Up to i, the flag is whether a sample differs from itself.
-use mathlib.Core.Path.{◌≡◌, ◌∙◌, ap}
+use mathlib.Core.Path.{◌∙◌, ap}
 use mathlib.Core.Bool.{Bool, ◌||◌}
-use Prim.Native.Nat.{◌-◌, ◌≤◌}
 use native.Mathlib.Omega.{arith}
-use lib.ListN.{length, get_or, take}
+use lib.ListN.{get_or}
 use lib.Ieee.{nan}
-use Rattle.row.specs.Row.{any}
 use Rattle.rowclamp.specs.Inner.{is_not_self}
-use Rattle.row.proofs.Scan.{none_yet, any_step, any_end}
-use borrow.Author.Rules.{rules}
+use Rattle.row.proofs.Scan.{none_yet, any_step}
 use Rattle.rowclamp.proofs.has_nan.Goals as goal
 
 pub loop-i-init : goal.loop-i-init

@@ -1,6 +1,5 @@
 -- What is left to lay down, laid into what stands there, is the whole.
-use Rattle.std.proofs.Common.{refl, rules}
-use Rattle.block.proofs.Laying.{Laying, lay_step, lay_end}
+use Rattle.block.proofs.Laying.{lay_step, lay_end}
 use Rattle.block.proofs.bytes.store.Goals as goal
 
 pub loop-left-preserved : goal.loop-left-preserved

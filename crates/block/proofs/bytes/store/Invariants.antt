@@ -1,6 +1,5 @@
 -- What is left to lay down, laid into what stands there, is the whole.
-use Rattle.std.proofs.Common.{refl, rules}
-use Rattle.block.proofs.Laying.{Laying, lay_step, lay_end}
+use Rattle.block.proofs.Laying.{Laying}
 use Rattle.block.proofs.bytes.store.Given as goal
 
 abbrev pub invariant-loop-left : goal.invariant-loop-left

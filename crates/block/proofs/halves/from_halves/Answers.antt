@@ -1,8 +1,4 @@
 -- The pass writes what the block asks for.
-use Rattle.std.proofs.Common.{mul_comm, rules}
-use Rattle.value.specs.declared.Kind.TheVariants as kind
-use Rattle.sample.proofs.Samplings.{count_inside}
-use Rattle.block.proofs.Samplings.{room_inside}
 use Rattle.block.proofs.Halving.{halved_block}
 use Rattle.block.proofs.halves.from_halves.Goals as goal
 

@@ -1,11 +1,8 @@
 -- Up to i, the flag is whether a sample is a NaN.
-use Rattle.std.proofs.Common.{◌≡◌, ◌-◌, ◌≤◌, take, ◌∙◌, arith, rules}
+use Rattle.std.proofs.Common.{◌≡◌, ◌-◌, ◌≤◌, take}
 use Rattle.float.specs.Format.{f16, nan_in}
 use Rattle.row.specs.Row.{any}
-use Rattle.row.proofs.Scan.{none_yet, any_step, any_end}
 use Rattle.sample.specs.Samples.{numbers_in}
-use Rattle.sample.proofs.Samplings.{length_numbers}
-use Rattle.block.proofs.Halving.{half_here}
 use Rattle.block.proofs.halves.holds_nan.Given as goal
 
 abbrev pub invariant-loop-i : goal.invariant-loop-i

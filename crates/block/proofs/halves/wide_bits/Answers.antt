@@ -1,5 +1,5 @@
 -- The pattern without the sign is found in one of three ways; then the sign bit is set or not.
-use Rattle.std.proofs.Common.{sym, subst, arith, rules}
+use Rattle.std.proofs.Common.{sym, subst, arith}
 use Rattle.block.proofs.HalfBits.{IsWide, wide_low, wide_infinite, wide_high, bits_clear, bits_set}
 use Rattle.block.proofs.halves.wide_bits.Goals as goal
 use Rattle.block.proofs.halves.wide_bits.Goals.{Joined-a-lt1024, then-a-lt1024, else-a-lt1024+then-a-eq31744, else-a-lt1024+else-a-eq31744}

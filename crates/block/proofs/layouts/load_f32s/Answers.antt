@@ -1,7 +1,7 @@
 -- Each turn makes one more number of four bytes.
-use Rattle.std.proofs.Common.{◌-◌, ◌<◌, length, sym, ap, ◌∙◌, arith, rules}
+use Rattle.std.proofs.Common.{◌<◌, length, sym, ap, ◌∙◌, arith}
 use lib.Ieee.{binary32, of_bits}
-use Rattle.row.proofs.Written.{Written, write_step, write_end}
+use Rattle.row.proofs.Written.{write_step, write_end}
 use Rattle.sample.specs.Samples.{numbers_in}
 use Rattle.sample.proofs.Samplings.{length_numbers, number_here}
 use Rattle.bytewise.proofs.LittleEndian.{four_here}

@@ -1,6 +1,6 @@
 -- Each turn makes one more number of two bytes.
-use Rattle.std.proofs.Common.{ℕ, ◌-◌, ◌<◌, length, sym, ◌∙◌, arith, rules}
-use Rattle.row.proofs.Written.{Written, write_step, write_end}
+use Rattle.std.proofs.Common.{ℕ, ◌<◌, length, sym, ◌∙◌, arith}
+use Rattle.row.proofs.Written.{write_step, write_end}
 use Rattle.sample.specs.Samples.{numbers_in}
 use Rattle.sample.proofs.Samplings.{length_numbers, number_here}
 use Rattle.bytewise.proofs.LittleEndian.{two_here}

@@ -1,9 +1,7 @@
 -- Each turn makes one more number of two bytes.
-use Rattle.std.proofs.Common.{ℕ, ◌-◌, ◌<◌, length, sym, ◌∙◌, arith, rules}
-use Rattle.row.proofs.Written.{Written, write_step, write_end}
+use Rattle.std.proofs.Common.{ℕ, ◌-◌, length}
+use Rattle.row.proofs.Written.{Written}
 use Rattle.sample.specs.Samples.{numbers_in}
-use Rattle.sample.proofs.Samplings.{length_numbers, number_here}
-use Rattle.bytewise.proofs.LittleEndian.{two_here}
 use Rattle.block.proofs.layouts.load_u16s.Given as goal
 
 abbrev pub invariant-loop-i : goal.invariant-loop-i

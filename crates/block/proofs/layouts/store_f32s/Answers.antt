@@ -1,11 +1,11 @@
 -- Each turn lays one more sample down.
-use Rattle.std.proofs.Common.{ℕ, ◌+◌, ◌-◌, ◌*◌, ◌<◌, ◌≤◌, length, get_or, sym, refl, ap, mul_comm, arith, lit<, rules}
+use Rattle.std.proofs.Common.{ℕ, ◌+◌, ◌*◌, get_or, sym, refl, ap, mul_comm, arith}
 use lib.Ieee.{nan, binary32, is_nan, to_bits}
 use Rattle.value.specs.declared.Kind.TheVariants as kind
 use Rattle.row.proofs.F32Sample.{bits_are}
 use Rattle.block.specs.Inner.{plain_bits}
-use Rattle.block.proofs.Laying.{past_one, past_two, past_three, lay_four}
-use Rattle.block.proofs.Samplings.{Filled, fill_none, fill_step, fill_end}
+use Rattle.block.proofs.Laying.{lay_four}
+use Rattle.block.proofs.Samplings.{fill_none, fill_step}
 use Rattle.block.proofs.Pairs.{none_here}
 use Rattle.block.proofs.layouts.store_f32s.Goals as goal
 use Rattle.block.proofs.layouts.store_f32s.Goals.{After-shared_slice_known-1}

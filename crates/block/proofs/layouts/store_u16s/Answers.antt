@@ -1,8 +1,8 @@
 -- Each turn lays one more sample down.
-use Rattle.std.proofs.Common.{ℕ, ◌+◌, ◌-◌, ◌*◌, ◌≤◌, length, get_or, refl, ap, mul_comm, arith, rules}
+use Rattle.std.proofs.Common.{ℕ, ◌+◌, ◌*◌, get_or, refl, ap, mul_comm, arith}
 use Rattle.value.specs.declared.Kind.TheVariants as kind
-use Rattle.block.proofs.Samplings.{Filled, fill_none, fill_step, fill_end}
-use Rattle.block.proofs.Laying.{past_one, lay_two}
+use Rattle.block.proofs.Samplings.{fill_none, fill_step}
+use Rattle.block.proofs.Laying.{lay_two}
 use Rattle.block.proofs.layouts.store_u16s.Goals as goal
 
 pub loop-i-init : goal.loop-i-init

@@ -1,5 +1,5 @@
 -- The arm tells the outcome.
-use Rattle.std.proofs.Common.{sym, ap, ◌∙◌, rules}
+use Rattle.std.proofs.Common.{sym, ap, ◌∙◌}
 use Rattle.convert.specs.Convert.{converted_outcome}
 use Rattle.sample.proofs.Refusals.{sample_given, sample_refused}
 use Rattle.block.specs.Inner.{given_bits}

@@ -1,7 +1,7 @@
 -- Up to i no sample is refused.
-use Rattle.std.proofs.Common.{◌≡◌, ◌-◌, ◌<◌, length, sym, refl, ap, ◌∙◌, arith, rules}
+use Rattle.std.proofs.Common.{◌≡◌, ◌<◌, length, sym, ap, ◌∙◌, arith}
 use Rattle.value.specs.Meaning.{value_of}
-use Rattle.row.proofs.Scan.{Reached, reach_step, reach_stop, reach_end, reach_start}
+use Rattle.row.proofs.Scan.{reach_step, reach_stop, reach_end, reach_start}
 use Rattle.sample.specs.Samples.{count_of, samples_of, sample_at}
 use Rattle.sample.specs.Refusals.{refused_to}
 use Rattle.sample.proofs.Samplings.{length_samples}

@@ -1,11 +1,9 @@
 -- The first i conversions are laid down.
-use Rattle.std.proofs.Common.{◌≡◌, ◌+◌, ◌-◌, ◌*◌, ◌<◌, ◌≤◌, length, sym, ◌∙◌, zero-add, zero-mul, arith, rules}
-use Rattle.value.specs.Meaning.{value_of}
+use Rattle.std.proofs.Common.{◌≡◌, ◌-◌, ◌*◌, ◌≤◌}
 use Rattle.value.specs.Kinds.{bytes_of}
-use Rattle.sample.specs.Samples.{count_of, samples_of}
-use Rattle.sample.proofs.Samplings.{length_samples}
+use Rattle.sample.specs.Samples.{samples_of}
 use Rattle.block.specs.Inner.{moved_bits}
-use Rattle.block.proofs.Samplings.{place_inside, next_place, Filled, fill_none, fill_step, fill_end}
+use Rattle.block.proofs.Samplings.{Filled}
 use Rattle.block.proofs.passes.write_samples.Given as goal
 
 abbrev pub invariant-loop-i : goal.invariant-loop-i

@@ -1,13 +1,9 @@
 -- The samples before i are laid down, and whole rows are left.
-use Rattle.std.proofs.Common.{◌≡◌, ℕ, ◌+◌, ◌-◌, ◌*◌, ◌%◌, ◌≤◌, List, map, length, take, drop, sym, ap, ◌∙◌, arith, length-drop, rules}
-use lib.Seq.{sets}
+use Rattle.std.proofs.Common.{◌≡◌, ◌-◌, ◌%◌, ◌≤◌, length}
 use Rattle.value.specs.declared.Kind.TheVariants as kind
 use Rattle.sample.specs.Samples.{numbers_in}
-use Rattle.sample.proofs.Samplings.{length_numbers, numbers_piece}
-use Rattle.block.specs.Output.{bytes_for}
 use Rattle.block.specs.Inner.{floated_bits}
-use Rattle.block.proofs.Samplings.{Filled, fill_none, fill_piece, fill_end}
-use Rattle.block.proofs.Pieces.{bytes_fit, place_of, rest_is, row_left}
+use Rattle.block.proofs.Samplings.{Filled}
 use Rattle.block.proofs.rows.float_full.Given as goal
 
 abbrev pub invariant-loop-i : goal.invariant-loop-i

@@ -1,5 +1,5 @@
 -- No sample is refused, so the second row holds the samples' casts.
-use Rattle.std.proofs.Common.{◌≡◌, ℕ, List, map, length, get_or, ◌^◌, ◌<◌, ap, ◌∙◌, arith, rules}
+use Rattle.std.proofs.Common.{◌≡◌, ℕ, List, map, length, get_or, ◌^◌, ◌<◌, ap, ◌∙◌, arith}
 use lib.ListN.{length-map}
 use lib.Seq.{sets}
 use lib.Ieee.{is_nan}

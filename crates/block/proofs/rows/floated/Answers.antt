@@ -1,8 +1,4 @@
 -- The rows hold what the block asks for.
-use Rattle.std.proofs.Common.{refl, mul_comm, arith, rules}
-use Rattle.value.specs.declared.Kind.TheVariants as kind
-use Rattle.sample.proofs.Samplings.{count_inside}
-use Rattle.block.proofs.Samplings.{room_inside}
 use Rattle.block.proofs.Pairs.{floated_block}
 use Rattle.block.proofs.rows.floated.Goals as goal
 

@@ -1,5 +1,5 @@
 -- The row's answer is the block's.
-use Rattle.std.proofs.Common.{◌≡◌, ℕ, length, sym, ap, ◌∙◌, length-take-le, rules}
+use Rattle.std.proofs.Common.{◌≡◌, ℕ, length, ap, ◌∙◌}
 use Rattle.row.specs.Row.{rowed_outcome}
 use Rattle.sample.specs.Samples.{numbers_in}
 use Rattle.sample.proofs.Samplings.{length_numbers}

@@ -1,5 +1,5 @@
 -- The row's answer is the block's.
-use Rattle.std.proofs.Common.{sym, ap, ◌∙◌, rules}
+use Rattle.std.proofs.Common.{sym, ap, ◌∙◌}
 use lib.Ieee.{binary32, of_bits}
 use Rattle.value.specs.declared.Kind.TheVariants as kind
 use Rattle.row.specs.Row.{rowed_outcome}

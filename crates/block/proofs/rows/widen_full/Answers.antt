@@ -1,10 +1,10 @@
 -- The samples before i are laid down, and whole rows are left.
-use Rattle.std.proofs.Common.{◌≡◌, ℕ, ◌+◌, ◌-◌, ◌*◌, ◌%◌, ◌≤◌, List, map, length, take, drop, sym, ap, ◌∙◌, arith, rules}
+use Rattle.std.proofs.Common.{ℕ, ◌*◌, List, map, length, ap, ◌∙◌, arith, rules}
 use lib.Seq.{sets}
 use Rattle.value.specs.declared.Kind.TheVariants as kind
 use Rattle.block.specs.Output.{bytes_for}
-use Rattle.block.proofs.Samplings.{Filled, fill_none, fill_piece, fill_end}
-use Rattle.block.proofs.Pieces.{piece_is, piece_length, bytes_fit, place_of, row_left}
+use Rattle.block.proofs.Samplings.{fill_none, fill_piece}
+use Rattle.block.proofs.Pieces.{piece_is, place_of, row_left}
 use Rattle.block.proofs.rows.widen_full.Goals as goal
 use Rattle.block.proofs.rows.widen_full.Goals.{In-loop-i}
 

@@ -1,5 +1,5 @@
 -- No sample is refused, so the second row holds the samples' own numbers.
-use Rattle.std.proofs.Common.{ℕ, List, ap, ◌∙◌, rules}
+use Rattle.std.proofs.Common.{ℕ, List, ap, ◌∙◌}
 use lib.Seq.{sets}
 use Rattle.value.specs.declared.Kind.TheVariants as kind
 use Rattle.block.specs.Output.{bytes_for}

@@ -1,5 +1,5 @@
 -- The whole rows and the rest are all of it.
-use Rattle.std.proofs.Common.{◌≡◌, ℕ, ◌-◌, ◌*◌, ◌%◌, length, take, sym, refl, arith, length-take-le, rules}
+use Rattle.std.proofs.Common.{ℕ, ◌-◌, ◌*◌, ◌%◌, length, refl, arith}
 use Rattle.value.specs.declared.Kind.TheVariants as kind
 use Rattle.block.proofs.Samplings.{fill_two}
 use Rattle.block.proofs.Pieces.{place_of}

@@ -1,7 +1,4 @@
 -- The rows hold what the block asks for.
-use Rattle.std.proofs.Common.{length, mul_comm, div-one, arith, rules}
-use Rattle.value.specs.declared.Kind.TheVariants as kind
-use Rattle.block.proofs.Samplings.{room_inside}
 use Rattle.block.proofs.Pairs.{widened_block}
 use Rattle.block.proofs.rows.widened.Goals as goal
 

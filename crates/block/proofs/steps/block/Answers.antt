@@ -1,5 +1,5 @@
 -- Without room it is refused; with room its samples decide.
-use Rattle.std.proofs.Common.{length, ap, ◌∙◌, rules}
+use Rattle.std.proofs.Common.{length, ap, ◌∙◌}
 use Rattle.row.specs.Row.{rowed_outcome}
 use Rattle.block.proofs.Blocks.{step_short, step_block, shorter, enough}
 use Rattle.block.proofs.steps.block.Goals as goal

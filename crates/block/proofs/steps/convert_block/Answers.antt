@@ -1,5 +1,5 @@
 -- Bytes left over; then an earlier refusal; then the block.
-use Rattle.std.proofs.Common.{ℕ, ◌%◌, length, sym, ap, ◌∙◌, rules}
+use Rattle.std.proofs.Common.{ℕ, ◌%◌, length, sym, ap, ◌∙◌}
 use Rattle.value.specs.Outcome.{refuses}
 use Rattle.row.specs.Row.{rowed_outcome}
 use Rattle.block.proofs.Blocks.{step_count, step_left, step_stays, step_accepted}

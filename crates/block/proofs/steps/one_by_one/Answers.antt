@@ -1,9 +1,8 @@
 -- The looking pass found a sample that is refused, or none.
-use Rattle.std.proofs.Common.{ap, ◌∙◌, rules}
+use Rattle.std.proofs.Common.{ap, ◌∙◌}
 use Rattle.value.specs.declared.Value.{Value}
 use Rattle.row.specs.Row.{rowed_outcome}
 use Rattle.sample.specs.Refusals.{bits_to, refusal_number}
-use Rattle.block.proofs.Samplings.{room_inside}
 use Rattle.block.proofs.Blocks.{block_bad, block_done}
 use Rattle.block.proofs.steps.one_by_one.Goals as goal
 

@@ -1,10 +1,6 @@
 -- 0 has no digit set; any other number has one below the place exactly when fewer zeros stand at its end.
-use mathlib.Core.Path.{refl}
-use Prim.Native.Nat.{◌^◌}
-use native.Mathlib.Nat.{zero-mod}
 use native.Mathlib.Omega.{arith}
 use borrow.Author.Rules.{rules}
-use lib.Count.{trailing_le}
 use Rattle.convert.proofs.Binary.{trailing_fraction}
 use Rattle.convert.proofs.digits.has_fraction.Goals as goal
 

@@ -1,6 +1,5 @@
 -- What is left of 64 digits after the leading zeros.
 use native.Mathlib.Omega.{arith}
-use lib.Count.{leading_le}
 use Rattle.convert.proofs.Binary.{size_leading}
 use Rattle.convert.proofs.digits.size_of.Goals as goal
 

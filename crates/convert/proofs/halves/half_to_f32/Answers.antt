@@ -4,15 +4,12 @@ use mathlib.Core.Bool.{Bool, cond}
 use Prim.Native.Nat.{ℕ, ◌+◌, ◌<◌}
 use native.Mathlib.Nat.{mod-eq_of_lt}
 use native.Mathlib.Omega.{arith}
-use borrow.Author.Rules.{rules}
 use lib.Dec.{lit≤}
 use Rattle.float.specs.Format.{f16, f32, abs_in, negative_in}
 use Rattle.half.specs.Small.{IsOver}
-use Rattle.value.specs.declared.Kind.TheVariants as kind
 use Rattle.value.specs.Meaning.{f32_value}
 use Rattle.value.specs.Outcome.{gives}
 use Rattle.convert.specs.Convert.{with_sign}
-use Rattle.convert.specs.Inner.{into_of}
 use Rattle.convert.proofs.FromHalf.{entry_small, low_moved}
 use Rattle.convert.proofs.halves.half_to_f32.Goals as goal
 use Rattle.convert.proofs.halves.half_to_f32.Goals.{After-small_f32-bits}

@@ -1,11 +1,7 @@
 -- By abs: a NaN, an infinity, a number without an exponent field or with one.
 use mathlib.Core.Path.{◌≡◌}
-use Prim.Native.Nat.{◌*◌, ◌/◌, ◌%◌, ◌^◌, ◌≤◌, ◌<◌}
-use native.Mathlib.Nat.{mod-lt}
-use native.Mathlib.Omega.{arith}
-use borrow.Author.Rules.{rules}
-use lib.Pow.{pow_pos, pow_mono}
-use Rattle.convert.proofs.Taken.{hidden_is, taken_nan, taken_infinite, taken_low, taken_high, field_small}
+use Prim.Native.Nat.{◌*◌, ◌/◌, ◌%◌, ◌^◌}
+use Rattle.convert.proofs.Taken.{hidden_is, taken_low, taken_high}
 use Rattle.convert.proofs.sources.float_parts.Goals as goal
 use Rattle.convert.proofs.sources.float_parts.Goals.{Else-a-inf-2}
 

@@ -1,8 +1,6 @@
 -- From 0 on z is its own magnitude; below, -1 - z is its magnitude less one.
-use native.Mathlib.Omega.{arith}
 use Rattle.value.specs.Meaning.{unit}
-use Rattle.value.proofs.TwosComplement.{natural_cast, negative_fits, negative_cast}
-use Rattle.convert.proofs.Taken.{taken_natural, taken_negative, negative_room}
+use Rattle.convert.proofs.Taken.{taken_natural, taken_negative}
 use Rattle.convert.proofs.sources.integer_parts.Goals as goal
 
 pub returns-then-z-ge0 : goal.returns-then-z-ge0

@@ -1,15 +1,8 @@
 -- Each arm knows its case; a narrow signed number is read back from its bits at the wider type.
 use mathlib.Core.Path.{refl, sym, ◌∙◌, ap}
-use borrow.Author.Rules.{rules}
-use lib.Dec.{lit≤}
-use lib.IntN.{ℤ}
-use mir.Syntax.{w8, w16, w32, w64}
-use mir.Val.{SFits}
-use mir.ValLaws.{to_z-of_z}
 use Rattle.float.specs.Format.{f16, f32, f64}
 use Rattle.float.specs.Number.{times}
-use Rattle.value.specs.Meaning.{whole_of, unit, step_of, exact_of}
-use Rattle.value.proofs.TwosComplement.{wider, recast, recast_back}
+use Rattle.value.specs.Meaning.{step_of, exact_of}
 use Rattle.convert.proofs.Taken.{taken_pattern}
 use Rattle.convert.proofs.sources.parts_of.Goals as goal
 

@@ -1,6 +1,5 @@
 -- What was found fits the kind, and the value made of it is the definition's.
 use mathlib.Core.Path.{◌∙◌, ap}
-use borrow.Author.Rules.{rules}
 use Rattle.value.specs.Outcome.{gives}
 use Rattle.convert.specs.Inner.{meaning}
 use Rattle.convert.proofs.Puts.{put_is, put_refused, found_fits}

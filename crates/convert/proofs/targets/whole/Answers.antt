@@ -1,16 +1,14 @@
 -- Of a zero the sign decides. By the number of digits the quotient is known to fit or to be too large, and one that is too large has no fraction.
 use mathlib.Core.Path.{◌≡◌, sym, ◌∙◌, ap, subst}
-use mathlib.Core.Bool.{Bool, not, cond}
+use mathlib.Core.Bool.{not, cond}
 use Prim.Native.Nat.{ℕ, ◌*◌, ◌/◌, ◌%◌, ◌^◌, ◌≤◌, ◌<◌}
 use native.Mathlib.Nat.{mul-pos}
 use native.Mathlib.Omega.{arith}
-use borrow.Author.Rules.{rules}
 use lib.Dec.{eqb}
 use lib.Pow.{pow_pos}
 use Rattle.value.specs.Meaning.{unit}
 use Rattle.value.specs.Outcome.{gives}
-use Rattle.convert.specs.Inner.{whole_at}
-use Rattle.convert.proofs.Wholes.{quotient_large, quotient_fits, whole_minus_zero, whole_plus_zero, whole_large}
+use Rattle.convert.proofs.Wholes.{quotient_large, quotient_fits, whole_large}
 use Rattle.convert.proofs.Wholes.{whole_fraction, whole_outside, whole_inside}
 use Rattle.convert.proofs.targets.whole.Goals as goal
 use Rattle.convert.proofs.targets.whole.Goals.{After-over-ratio, Else-m-eq0, Joined-s-2, then-s-2, else-s-2}

@@ -1,6 +1,5 @@
 -- Each arm is a case of `whole_in`.
 use mathlib.Core.Path.{sym, ◌∙◌, ap}
-use borrow.Author.Rules.{rules}
 use Rattle.convert.specs.declared.Parts.{Parts}
 use Rattle.convert.specs.Inner.{meaning, whole_in}
 use Rattle.convert.proofs.targets.whole_in.Goals as goal

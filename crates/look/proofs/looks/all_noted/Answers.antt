@@ -1,5 +1,5 @@
 -- The first i samples were noted.
-use Rattle.std.proofs.Common.{◌≡◌, ◌-◌, ◌<◌, length, take, sym, ap, ◌∙◌, arith, take_all, rules}
+use Rattle.std.proofs.Common.{◌<◌, length, sym, ap, ◌∙◌, arith, take_all}
 use Rattle.value.specs.Meaning.{value_of}
 use Rattle.sample.specs.Samples.{count_of, samples_of}
 use Rattle.sample.proofs.Samplings.{length_samples}

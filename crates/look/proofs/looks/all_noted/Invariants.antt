@@ -1,10 +1,7 @@
 -- The first i samples were noted.
-use Rattle.std.proofs.Common.{◌≡◌, ◌-◌, ◌<◌, length, take, sym, ap, ◌∙◌, arith, take_all, rules}
-use Rattle.value.specs.Meaning.{value_of}
-use Rattle.sample.specs.Samples.{count_of, samples_of}
-use Rattle.sample.proofs.Samplings.{length_samples}
+use Rattle.std.proofs.Common.{◌≡◌, ◌-◌, take}
+use Rattle.sample.specs.Samples.{samples_of}
 use Rattle.look.specs.Report.{all_noted}
-use Rattle.look.proofs.Looking.{noted_none, noted_more}
 use Rattle.look.proofs.looks.all_noted.Given as goal
 
 abbrev pub invariant-loop-i : goal.invariant-loop-i

@@ -1,8 +1,8 @@
 -- A float's bits tell it; an integer is none.
-use Rattle.std.proofs.Common.{sym, refl, ap, ◌∙◌, rules}
+use Rattle.std.proofs.Common.{sym, refl, ap, ◌∙◌}
 use Rattle.float.specs.Format.{f16, f32, f64}
 use Rattle.look.specs.Report.{infinite}
-use Rattle.look.proofs.ByBits.{infinite_float, infinite_integer}
+use Rattle.look.proofs.ByBits.{infinite_float}
 use Rattle.look.proofs.looks.is_infinite.Goals as goal
 
 pub returns-in-F32 : goal.returns-in-F32

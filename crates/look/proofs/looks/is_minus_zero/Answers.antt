@@ -1,5 +1,5 @@
 -- A float's bits are tested; an integer is none.
-use Rattle.std.proofs.Common.{sym, refl, ap, ◌∙◌, rules}
+use Rattle.std.proofs.Common.{sym, refl, ap, ◌∙◌}
 use Rattle.float.specs.Format.{f16, f32, f64}
 use Rattle.look.specs.Report.{minus_zero}
 use Rattle.look.proofs.ByBits.{minus_zero_told, minus_zero_integer}

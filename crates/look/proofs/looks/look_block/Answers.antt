@@ -1,5 +1,5 @@
 -- All samples; then whether bytes are left over.
-use Rattle.std.proofs.Common.{ℕ, ◌%◌, length, sym, ap, ◌∙◌, rules}
+use Rattle.std.proofs.Common.{ℕ, ◌%◌, length, sym, ap, ◌∙◌}
 use Rattle.look.specs.Report.{left_noted}
 use Rattle.look.proofs.Looking.{look_whole, look_left}
 use Rattle.look.proofs.looks.look_block.Goals as goal

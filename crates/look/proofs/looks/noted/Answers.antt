@@ -1,5 +1,5 @@
 -- Field by field.
-use Rattle.std.proofs.Common.{Bool, ap, ◌∙◌, rules}
+use Rattle.std.proofs.Common.{Bool, ap, ◌∙◌}
 use Rattle.look.specs.Report.{count_if}
 use Rattle.look.proofs.Looking.{noted_is}
 use Rattle.look.proofs.looks.noted.Goals as goal

@@ -1,10 +1,7 @@
 -- Each turn writes one more sample.
 use mathlib.Core.Path.{refl}
-use Prim.Native.Nat.{◌-◌}
 use Rattle.row.specs.Inner.{as_f32}
-use lib.ListN.{length}
-use Rattle.row.proofs.Written.{Written, write_step, write_end}
-use borrow.Author.Rules.{rules}
+use Rattle.row.proofs.Written.{write_step}
 use Rattle.row.proofs.floating.float_all.Goals as goal
 
 pub loop-i-preserved : goal.loop-i-preserved

@@ -4,7 +4,6 @@ use Rattle.row.specs.Convert.{u16_to_f32}
 use Rattle.row.specs.Inner.{as_f32}
 use Rattle.row.proofs.ConvertRow.{lengths_differ_lem, always_done}
 use Rattle.row.proofs.IntoF32.{u16_float}
-use borrow.Author.Rules.{rules}
 use Rattle.row.proofs.floating.u16_to_f32.Goals as goal
 
 pub returns-then-src-dst : goal.returns-then-src-dst

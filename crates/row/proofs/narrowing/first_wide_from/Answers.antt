@@ -1,10 +1,7 @@
 -- Up to i no sample is above 255.
-use Prim.Native.Nat.{◌-◌}
 use borrow.Author.Tests.{lt-ltb, le-ltb}
-use lib.ListN.{length}
 use Rattle.row.specs.Inner.{is_wide}
-use Rattle.row.proofs.Scan.{Reached, reach_step, reach_stop, reach_end}
-use borrow.Author.Rules.{rules}
+use Rattle.row.proofs.Scan.{reach_step, reach_stop, reach_end}
 use Rattle.row.proofs.narrowing.first_wide_from.Goals as goal
 
 pub returns-then-row-i-gt255 : goal.returns-then-row-i-gt255

@@ -1,13 +1,10 @@
 -- Up to i, the flag is whether a sample is above 255.
-use mathlib.Core.Path.{◌≡◌, ◌∙◌, ap}
+use mathlib.Core.Path.{◌∙◌, ap}
 use mathlib.Core.Bool.{Bool, ◌||◌}
-use Prim.Native.Nat.{◌-◌, ◌≤◌}
 use native.Mathlib.Omega.{arith}
-use lib.ListN.{length, get_or, take}
-use Rattle.row.specs.Row.{any}
+use lib.ListN.{get_or}
 use Rattle.row.specs.Inner.{is_wide}
-use Rattle.row.proofs.Scan.{none_yet, any_step, any_end}
-use borrow.Author.Rules.{rules}
+use Rattle.row.proofs.Scan.{none_yet, any_step}
 use Rattle.row.proofs.narrowing.has_wide.Goals as goal
 
 pub loop-i-init : goal.loop-i-init

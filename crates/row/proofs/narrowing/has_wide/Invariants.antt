@@ -1,13 +1,9 @@
 -- Up to i, the flag is whether a sample is above 255.
-use mathlib.Core.Path.{◌≡◌, ◌∙◌, ap}
-use mathlib.Core.Bool.{Bool, ◌||◌}
+use mathlib.Core.Path.{◌≡◌}
 use Prim.Native.Nat.{◌-◌, ◌≤◌}
-use native.Mathlib.Omega.{arith}
-use lib.ListN.{length, get_or, take}
+use lib.ListN.{length, take}
 use Rattle.row.specs.Row.{any}
 use Rattle.row.specs.Inner.{is_wide}
-use Rattle.row.proofs.Scan.{none_yet, any_step, any_end}
-use borrow.Author.Rules.{rules}
 use Rattle.row.proofs.narrowing.has_wide.Given as goal
 
 abbrev pub invariant-loop-i : goal.invariant-loop-i

@@ -1,13 +1,12 @@
 -- The looking pass found no sample above 255, so each fits.
 use mathlib.Core.Path.{refl}
-use Prim.Native.Nat.{ℕ, ◌-◌, ◌≤◌}
+use Prim.Native.Nat.{ℕ, ◌≤◌}
 use borrow.Author.Tests.{ltb-false}
 use native.Mathlib.Omega.{arith}
 use Rattle.row.specs.Inner.{is_wide}
 use Rattle.row.proofs.Scan.{first_none}
-use lib.ListN.{length, get_or}
-use Rattle.row.proofs.Written.{Written, write_step, write_end}
-use borrow.Author.Rules.{rules}
+use lib.ListN.{get_or}
+use Rattle.row.proofs.Written.{write_step}
 use Rattle.row.proofs.narrowing.narrow_all.Goals as goal
 
 pub overflow_cast-dst : goal.overflow_cast-dst

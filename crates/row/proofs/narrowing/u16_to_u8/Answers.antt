@@ -4,7 +4,6 @@ use Rattle.row.specs.Inner.{is_wide}
 use Rattle.row.proofs.Scan.{first_all}
 use Rattle.row.proofs.ConvertRow.{lengths_differ_lem}
 use Rattle.row.proofs.IntoUnsigned.{narrow_refused, narrow_done}
-use borrow.Author.Rules.{rules}
 use Rattle.row.proofs.narrowing.u16_to_u8.Goals as goal
 
 pub returns-then-src-dst : goal.returns-then-src-dst

@@ -5,7 +5,6 @@ use Rattle.row.specs.Inner.{is_misfit}
 use Rattle.row.proofs.Scan.{first_hit, first_all}
 use Rattle.row.proofs.ConvertRow.{lengths_differ_lem}
 use Rattle.row.proofs.IntoU16.{whole_row_refused, whole_row_done}
-use borrow.Author.Rules.{rules}
 use Rattle.row.proofs.wholes.f32_to_u16.Goals as goal
 
 pub returns-then-src-dst : goal.returns-then-src-dst

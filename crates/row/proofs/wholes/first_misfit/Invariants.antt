@@ -1,13 +1,9 @@
 -- A block without a misfit is passed whole.
-use mathlib.Core.Path.{◌≡◌, sym, ◌∙◌, ap}
-use mathlib.Core.Bool.{false}
-use Prim.Native.Nat.{ℕ, ◌+◌, ◌-◌, ◌≤◌}
-use native.Mathlib.Omega.{arith}
-use lib.ListN.{length, take, drop}
-use Rattle.row.specs.Row.{first, any}
+use mathlib.Core.Path.{◌≡◌}
+use Prim.Native.Nat.{◌+◌, ◌-◌, ◌≤◌}
+use lib.ListN.{length, drop}
+use Rattle.row.specs.Row.{first}
 use Rattle.row.specs.Inner.{is_misfit}
-use Rattle.row.proofs.Scan.{reach_block}
-use borrow.Author.Rules.{rules}
 use Rattle.row.proofs.wholes.first_misfit.Given as goal
 
 abbrev pub invariant-loop-i : goal.invariant-loop-i

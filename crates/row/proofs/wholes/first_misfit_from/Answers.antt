@@ -1,11 +1,8 @@
 -- Up to i no sample is a misfit.
 use mathlib.Core.Path.{sym, ◌∙◌}
-use Prim.Native.Nat.{◌-◌}
-use lib.ListN.{length}
 use lib.Ieee.{nan}
 use Rattle.row.specs.Inner.{is_misfit}
-use Rattle.row.proofs.Scan.{Reached, reach_step, reach_stop, reach_end}
-use borrow.Author.Rules.{rules}
+use Rattle.row.proofs.Scan.{reach_step, reach_stop, reach_end}
 use Rattle.row.proofs.wholes.first_misfit_from.Goals as goal
 
 pub returns-then-is_misfit : goal.returns-then-is_misfit

@@ -1,13 +1,9 @@
 -- Up to i, the flag is whether a sample is a misfit.
-use mathlib.Core.Path.{◌≡◌, ◌∙◌}
-use Prim.Native.Nat.{◌-◌, ◌≤◌}
+use mathlib.Core.Path.{◌∙◌}
 use native.Mathlib.Omega.{arith}
-use lib.ListN.{length, take}
 use lib.Ieee.{nan}
-use Rattle.row.specs.Row.{any}
 use Rattle.row.specs.Inner.{is_misfit}
-use Rattle.row.proofs.Scan.{none_yet, any_step, any_end}
-use borrow.Author.Rules.{rules}
+use Rattle.row.proofs.Scan.{none_yet, any_step}
 use Rattle.row.proofs.wholes.has_misfit.Goals as goal
 
 pub loop-i-init : goal.loop-i-init

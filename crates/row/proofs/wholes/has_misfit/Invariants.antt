@@ -1,13 +1,9 @@
 -- Up to i, the flag is whether a sample is a misfit.
-use mathlib.Core.Path.{◌≡◌, ◌∙◌}
+use mathlib.Core.Path.{◌≡◌}
 use Prim.Native.Nat.{◌-◌, ◌≤◌}
-use native.Mathlib.Omega.{arith}
 use lib.ListN.{length, take}
-use lib.Ieee.{nan}
 use Rattle.row.specs.Row.{any}
 use Rattle.row.specs.Inner.{is_misfit}
-use Rattle.row.proofs.Scan.{none_yet, any_step, any_end}
-use borrow.Author.Rules.{rules}
 use Rattle.row.proofs.wholes.has_misfit.Given as goal
 
 abbrev pub invariant-loop-i : goal.invariant-loop-i

@@ -5,7 +5,6 @@ use Prim.Native.Nat.{ℕ}
 use lib.Dec.{leb}
 use Rattle.row.specs.Inner.{is_whole}
 use Rattle.row.proofs.F32Sample.{bits_are}
-use borrow.Author.Rules.{rules}
 use Rattle.row.proofs.wholes.is_misfit.Goals as goal
 
 pub returns : goal.returns

@@ -1,11 +1,8 @@
 -- The looking pass found no misfit, so each sample has a cast.
-use Prim.Native.Nat.{◌-◌}
-use lib.ListN.{length}
 use lib.Ieee.{nan}
 use Rattle.row.specs.Inner.{is_misfit, as_u16}
 use Rattle.row.proofs.Scan.{first_none}
-use Rattle.row.proofs.Written.{Written, write_step, write_end}
-use borrow.Author.Rules.{rules}
+use Rattle.row.proofs.Written.{write_step}
 use Rattle.row.proofs.wholes.whole_all.Goals as goal
 
 pub whole_of-requires : goal.whole_of-requires

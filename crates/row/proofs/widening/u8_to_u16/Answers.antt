@@ -3,7 +3,6 @@ use Prim.Native.Nat.{◌^◌, ◌<◌}
 use Rattle.row.specs.Convert.{u8_to_u16}
 use Rattle.row.proofs.ConvertRow.{lengths_differ_lem, always_done}
 use Rattle.row.proofs.IntoUnsigned.{u8_wider}
-use borrow.Author.Rules.{rules}
 use Rattle.row.proofs.widening.u8_to_u16.Goals as goal
 
 pub returns-then-src-dst : goal.returns-then-src-dst

@@ -1,10 +1,7 @@
 -- Each turn writes one more sample.
-use mathlib.Core.Path.{refl}
 use Prim.Native.Nat.{ℕ, ◌-◌}
-use native.Mathlib.Omega.{arith}
 use lib.ListN.{length}
-use Rattle.row.proofs.Written.{Written, write_step, write_end}
-use borrow.Author.Rules.{rules}
+use Rattle.row.proofs.Written.{Written}
 use Rattle.row.proofs.widening.widen_all.Given as goal
 
 abbrev pub invariant-loop-i : goal.invariant-loop-i

@@ -1,7 +1,6 @@
 -- The bytes from `left` on are gathered, and make a number below 256 to their count.
 use native.Mathlib.Omega.{arith}
-use Rattle.sample.proofs.Gathering.{Gathered, gather_none, gather_room, gather_step, gather_end}
-use borrow.Author.Rules.{rules}
+use Rattle.sample.proofs.Gathering.{gather_none, gather_room, gather_step}
 use Rattle.sample.proofs.bytes.load.Goals as goal
 
 pub loop-left-init : goal.loop-left-init

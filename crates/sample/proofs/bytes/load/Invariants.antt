@@ -1,7 +1,5 @@
 -- The bytes from `left` on are gathered, and make a number below 256 to their count.
-use native.Mathlib.Omega.{arith}
-use Rattle.sample.proofs.Gathering.{Gathered, gather_none, gather_room, gather_step, gather_end}
-use borrow.Author.Rules.{rules}
+use Rattle.sample.proofs.Gathering.{Gathered}
 use Rattle.sample.proofs.bytes.load.Given as goal
 
 abbrev pub invariant-loop-left : goal.invariant-loop-left

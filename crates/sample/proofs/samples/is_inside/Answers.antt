@@ -1,9 +1,5 @@
 -- The end is a machine number where it is asked for, as a sample has at most 8 bytes.
-use Prim.Native.Nat.{◌+◌, ◌*◌, ◌≤◌}
-use native.Mathlib.Nat.{mul-le-mul_left}
-use native.Mathlib.Omega.{arith}
 use Rattle.sample.proofs.Inside.{ends_inside}
-use borrow.Author.Rules.{rules}
 use Rattle.sample.proofs.samples.is_inside.Goals as goal
 
 pub returns-then-i-lt2305843009213693951 : goal.returns-then-i-lt2305843009213693951

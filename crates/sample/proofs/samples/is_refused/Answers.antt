@@ -3,7 +3,6 @@ use mathlib.Core.Path.{sym, ◌∙◌, ap}
 use Rattle.convert.specs.Convert.{converted_outcome}
 use Rattle.sample.specs.Refusals.{is_refused}
 use Rattle.sample.proofs.Refusals.{sample_given, sample_refused}
-use borrow.Author.Rules.{rules}
 use Rattle.sample.proofs.samples.is_refused.Goals as goal
 
 pub returns-in-To : goal.returns-in-To

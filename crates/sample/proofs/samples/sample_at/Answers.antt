@@ -1,8 +1,7 @@
 -- The value of the bits that the sample's bytes make, or of none.
 -- what was asked is whether there is such a sample
-use mathlib.Core.Path.{◌≡◌, sym, ◌∙◌, ap, subst}
-use Prim.Native.Nat.{ℕ, ◌+◌, ◌*◌, ◌/◌, ◌≤◌, ◌<◌}
-use native.Mathlib.Omega.{arith}
+use mathlib.Core.Path.{◌≡◌, sym, ◌∙◌, ap}
+use Prim.Native.Nat.{ℕ, ◌*◌, ◌/◌, ◌<◌}
 use mathlib.Core.Bool.{true}
 use borrow.Author.Tests.{ltb-true, ltb-false}
 use lib.Dec.{ltb}
@@ -10,8 +9,7 @@ use lib.ListN.{length, take, drop}
 use Rattle.value.specs.Meaning.{value_of}
 use Rattle.bytewise.specs.Numbers.{from_little_endian}
 use Rattle.sample.specs.Samples.{count_of}
-use Rattle.sample.proofs.Samplings.{at_inside, at_here, at_behind}
-use borrow.Author.Rules.{rules}
+use Rattle.sample.proofs.Samplings.{at_here, at_behind}
 use Rattle.sample.proofs.samples.sample_at.Goals as goal
 use Rattle.sample.proofs.samples.sample_at.Goals.{After-is_inside, Then-is_inside}
 

@@ -1,10 +1,5 @@
 -- Numbers that name kinds are passed; those that are left decide.
-use mathlib.Core.Path.{refl}
-use Prim.Native.Nat.{◌-◌}
-use native.Mathlib.Omega.{arith}
-use lib.ListN.{length}
-use borrow.Author.Rules.{rules}
-use Rattle.silamogo.proofs.Pairs.{Named, named_stop, named_step, named_end}
+use Rattle.silamogo.proofs.Pairs.{named_stop, named_step, named_end}
 use Rattle.silamogo.proofs.fields.any_unnamed.Goals as goal
 
 pub returns-then-unnamed : goal.returns-then-unnamed

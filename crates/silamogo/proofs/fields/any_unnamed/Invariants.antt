@@ -1,10 +1,7 @@
 -- Numbers that name kinds are passed; those that are left decide.
-use mathlib.Core.Path.{refl}
 use Prim.Native.Nat.{◌-◌}
-use native.Mathlib.Omega.{arith}
 use lib.ListN.{length}
-use borrow.Author.Rules.{rules}
-use Rattle.silamogo.proofs.Pairs.{Named, named_stop, named_step, named_end}
+use Rattle.silamogo.proofs.Pairs.{Named}
 use Rattle.silamogo.proofs.fields.any_unnamed.Given as goal
 
 abbrev pub invariant-loop-at : goal.invariant-loop-at

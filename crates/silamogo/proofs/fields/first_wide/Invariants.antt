@@ -1,8 +1,7 @@
 -- Fields with bits of their kinds are passed; those that are left decide.
 use Prim.Native.Nat.{◌-◌}
 use lib.ListN.{length}
-use borrow.Author.Rules.{rules}
-use Rattle.silamogo.proofs.Pairs.{Fitting, fitting_start, fitting_stop, fitting_step, fitting_end}
+use Rattle.silamogo.proofs.Pairs.{Fitting}
 use Rattle.silamogo.proofs.fields.first_wide.Given as goal
 
 abbrev pub invariant-loop-at : goal.invariant-loop-at

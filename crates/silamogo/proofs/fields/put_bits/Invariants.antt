@@ -1,9 +1,6 @@
 -- The bits of one field after the other.
-use mathlib.Core.Path.{refl}
 use Prim.Native.Nat.{◌-◌}
-use native.Mathlib.Omega.{arith}
-use borrow.Author.Rules.{rules}
-use Rattle.silamogo.proofs.Filling.{Written, written_more, written_all}
+use Rattle.silamogo.proofs.Filling.{Written}
 use Rattle.silamogo.proofs.fields.put_bits.Given as goal
 
 abbrev pub invariant-loop-at : goal.invariant-loop-at

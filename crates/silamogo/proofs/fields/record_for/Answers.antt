@@ -1,7 +1,5 @@
 -- The places are filled one by one.
-use Prim.Native.Nat.{◌-◌}
-use borrow.Author.Rules.{rules}
-use Rattle.silamogo.proofs.Filling.{RecordFilled, record_start, record_more, record_end}
+use Rattle.silamogo.proofs.Filling.{record_start, record_more, record_end}
 use Rattle.silamogo.proofs.fields.record_for.Goals as goal
 
 pub loop-at-init : goal.loop-at-init

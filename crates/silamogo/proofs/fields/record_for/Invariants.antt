@@ -1,7 +1,6 @@
 -- The places are filled one by one.
 use Prim.Native.Nat.{◌-◌}
-use borrow.Author.Rules.{rules}
-use Rattle.silamogo.proofs.Filling.{RecordFilled, record_start, record_more, record_end}
+use Rattle.silamogo.proofs.Filling.{RecordFilled}
 use Rattle.silamogo.proofs.fields.record_for.Given as goal
 
 abbrev pub invariant-loop-at : goal.invariant-loop-at

@@ -1,7 +1,5 @@
 -- The places are filled one by one.
-use Prim.Native.Nat.{◌-◌}
-use borrow.Author.Rules.{rules}
-use Rattle.silamogo.proofs.Filling.{ShapeFilled, shape_start, shape_more, shape_end}
+use Rattle.silamogo.proofs.Filling.{shape_start, shape_more, shape_end}
 use Rattle.silamogo.proofs.fields.shape_for.Goals as goal
 
 pub loop-at-init : goal.loop-at-init

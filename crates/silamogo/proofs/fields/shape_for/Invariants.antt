@@ -1,7 +1,6 @@
 -- The places are filled one by one.
 use Prim.Native.Nat.{◌-◌}
-use borrow.Author.Rules.{rules}
-use Rattle.silamogo.proofs.Filling.{ShapeFilled, shape_start, shape_more, shape_end}
+use Rattle.silamogo.proofs.Filling.{ShapeFilled}
 use Rattle.silamogo.proofs.fields.shape_for.Given as goal
 
 abbrev pub invariant-loop-at : goal.invariant-loop-at

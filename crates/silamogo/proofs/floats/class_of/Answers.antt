@@ -1,7 +1,5 @@
 -- The class of the format.
-use borrow.Author.Rules.{rules}
-use Rattle.float.specs.Format.{class_in}
-use Rattle.silamogo.proofs.SampleRules.{third_float, f32_bits, f16_bits, is_f32, is_f64, is_f16}
+use Rattle.silamogo.proofs.SampleRules.{third_float, f32_bits, f16_bits}
 use Rattle.silamogo.proofs.floats.class_of.Goals as goal
 
 pub overflow_cast-s : goal.overflow_cast-s

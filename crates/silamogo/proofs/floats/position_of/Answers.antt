@@ -1,13 +1,8 @@
 -- The position of the format; one of 32 or 16 bits fits 64.
-use mathlib.Core.Path.{◌∙◌}
 use borrow.Author.Rules.{rules}
-use lib.Dec.{lit≤}
-use mir.Syntax.{w16, w32, w64}
+use mir.Syntax.{w32}
 use mir.Val.{SFits}
-use mir.ValLaws.{to_z-of_z}
-use Rattle.float.specs.Format.{position_in}
-use Rattle.value.proofs.TwosComplement.{wider, recast, recast_back}
-use Rattle.silamogo.proofs.SampleRules.{third_float, f32_bits, f16_bits, is_f32, is_f64, is_f16}
+use Rattle.silamogo.proofs.SampleRules.{third_float, f32_bits, f16_bits}
 use Rattle.silamogo.proofs.floats.position_of.Goals as goal
 use Rattle.silamogo.proofs.floats.position_of.Goals.{After-position_f16, After-position_f32}
 

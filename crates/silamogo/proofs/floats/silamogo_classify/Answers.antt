@@ -1,7 +1,6 @@
 -- The rules, then the class as a number.
 use mathlib.Core.Path.{◌∙◌, ap}
 use Prim.Native.Nat.{ℕ}
-use borrow.Author.Rules.{rules}
 use Rattle.float.specs.Format.{class_in}
 use Rattle.value.specs.Outcome.{gives}
 use Rattle.silamogo.specs.declared.Classed.{Classed}

@@ -1,5 +1,4 @@
 -- Each way out is one law of what reading answers and leaves.
-use borrow.Author.Rules.{rules}
 use Rattle.silamogo.proofs.RecordRules.{read_miscounted, read_unnamed, read_uneven, read_room, read_given}
 use Rattle.silamogo.proofs.records.silamogo_key_read.Goals as goal
 

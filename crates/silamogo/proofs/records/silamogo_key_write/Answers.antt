@@ -1,5 +1,4 @@
 -- Each way out is one law of what writing answers and leaves.
-use borrow.Author.Rules.{rules}
 use Rattle.silamogo.proofs.RecordRules.{write_miscounted, write_unnamed, write_uneven, write_wide, write_given}
 use Rattle.silamogo.proofs.records.silamogo_key_write.Goals as goal
 

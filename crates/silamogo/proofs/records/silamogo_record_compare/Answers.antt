@@ -1,8 +1,7 @@
 -- Each way out is one law of how two records compare.
 use mathlib.Core.Path.{◌∙◌, ap}
-use borrow.Author.Rules.{rules}
 use Rattle.silamogo.specs.Answer.{ordered_of}
-use Rattle.silamogo.proofs.RecordRules.{order_miscounted, order_unnamed, order_uneven, even_both, order_first_wide, order_second_wide, order_given}
+use Rattle.silamogo.proofs.RecordRules.{order_miscounted, order_unnamed, order_uneven, order_first_wide, order_second_wide, order_given}
 use Rattle.silamogo.proofs.records.silamogo_record_compare.Goals as goal
 
 pub returns-then-bad_count : goal.returns-then-bad_count

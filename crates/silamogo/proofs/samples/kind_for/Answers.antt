@@ -1,6 +1,5 @@
 -- Each arm knows what was found.
 use mathlib.Core.Path.{sym, ◌∙◌, ap}
-use borrow.Author.Rules.{rules}
 use Rattle.silamogo.specs.Samples.{found_or, kind_for}
 use Rattle.silamogo.proofs.samples.kind_for.Goals as goal
 

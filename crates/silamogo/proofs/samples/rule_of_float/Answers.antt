@@ -1,6 +1,5 @@
 -- The tests of the kind and of the bits.
 use mathlib.Core.Path.{◌∙◌, ap}
-use borrow.Author.Rules.{rules}
 use Rattle.silamogo.specs.Inner.{rule_for}
 use Rattle.silamogo.specs.Single.{not_float}
 use Rattle.silamogo.proofs.SampleRules.{one_wide}

@@ -1,6 +1,5 @@
 -- The tests of the sample and of the target.
 use mathlib.Core.Path.{◌∙◌}
-use borrow.Author.Rules.{rules}
 use Rattle.silamogo.proofs.SampleRules.{two_unnamed, one_wide, rule_same}
 use Rattle.silamogo.proofs.samples.rule_of_target.Goals as goal
 

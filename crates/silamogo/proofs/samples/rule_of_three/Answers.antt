@@ -1,6 +1,5 @@
 -- The tests of all three samples.
 use mathlib.Core.Path.{◌∙◌}
-use borrow.Author.Rules.{rules}
 use Rattle.silamogo.proofs.SampleRules.{three_unnamed, three_wide, rule_same}
 use Rattle.silamogo.proofs.samples.rule_of_three.Goals as goal
 

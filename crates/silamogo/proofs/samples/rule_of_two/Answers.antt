@@ -1,6 +1,5 @@
 -- The tests of both samples.
 use mathlib.Core.Path.{◌∙◌}
-use borrow.Author.Rules.{rules}
 use Rattle.silamogo.proofs.SampleRules.{two_unnamed, two_wide, rule_same}
 use Rattle.silamogo.proofs.samples.rule_of_two.Goals as goal
 

@@ -1,6 +1,5 @@
 -- Each arm knows what was found.
 use mathlib.Core.Path.{sym, ◌∙◌, ap}
-use borrow.Author.Rules.{rules}
 use Rattle.silamogo.specs.Samples.{is_nothing}
 use Rattle.silamogo.specs.Samples as spec
 use Rattle.silamogo.proofs.samples.unnamed.Goals as goal

@@ -1,6 +1,5 @@
 -- The value of the kind with the bits.
 use mathlib.Core.Path.{◌∙◌, ap}
-use borrow.Author.Rules.{rules}
 use Rattle.value.specs.declared.Kind.{Kind}
 use Rattle.value.specs.Meaning.{value_of}
 use Rattle.silamogo.specs.Samples.{value_for}

@@ -1,6 +1,5 @@
 -- The rules, then the library's answer as numbers.
 use mathlib.Core.Path.{◌∙◌, ap}
-use borrow.Author.Rules.{rules}
 use Rattle.cmp.specs.Compare as library
 use Rattle.silamogo.specs.Answer.{ordered_of}
 use Rattle.silamogo.specs.Single.{compare_of}

@@ -1,6 +1,5 @@
 -- The rules, then the library's answer as numbers.
 use mathlib.Core.Path.{◌∙◌, ap}
-use borrow.Author.Rules.{rules}
 use Rattle.silamogo.specs.Answer.{sampled_of}
 use Rattle.silamogo.proofs.SampleRules.{convert_stop, convert_past}
 use Rattle.silamogo.proofs.singles.silamogo_convert.Goals as goal
