@@ -62,7 +62,8 @@ by_boundary_rules = record {
   max = λ a b. by_chain (two_rules a b ++ choice_rules (value_for a) (value_for b)) _;
   clamp = λ v lower upper. by_chain (three_rules v lower upper ++ clamp_rules (value_for v) (value_for lower) (value_for upper)) _;
   convert = λ v to. by_chain (kind_rules v to ++ convert_rules (value_for v) (kind_for to)) _;
-  compare_records = λ ns xs ms ys. by_chain (two_records_rules ns xs ms ys ++ record_rules (record_for (paired_samples ns xs)) (record_for (paired_samples ms ys))) _;
+  compare_records =
+      λ ns xs ms ys. by_chain (two_records_rules ns xs ms ys ++ record_rules (record_for (paired_samples ns xs)) (record_for (paired_samples ms ys))) _;
   write_key = λ ns bs room. by_chain (field_rules ns bs ++ write_rules (record_for (paired_samples ns bs)) room) _;
   read_key = λ ns key room. by_chain (room_rules ns room ++ read_rules (shape_for ns) key) _;
   migrate = by_migrate;
@@ -131,11 +132,21 @@ all_numbered = record {
   write_key = λ ns bs room. numbered_by (by_boundary_rules.write_key ns bs room) (nan_absent 0 refl 0 (fields_of (record_for (paired_samples ns bs))));
   read_key = λ ns key room. numbered_mapped (λ r. done) (record_read ns key room)
       (numbered_by (by_boundary_rules.read_key ns key room) (canonical_absent 0 refl 0 (key_numbers (kinds_in (shape_for ns)) key)));
-  row_clamp = λ lower upper row. numbered_by (by_its_rules.row_clamp (bounds_of lower upper) row) (each_absent 0 (λ (x : Float). unordered 0 (sample_order x (bounds_of lower upper).lower) ∷ []) (λ x. refl) 0 row);
-  u8_to_u16_lem = λ src dst. numbered_by (by_its_rules.u8_to_u16_lem src dst) (each_absent 0 (λ (n : ℕ). convert_rules (U8 n) kind.U16) (λ n. convert_no_zero (U8 n) kind.U16) 0 src);
-  u16_to_u8_lem = λ src dst. numbered_by (by_its_rules.u16_to_u8_lem src dst) (each_absent 0 (λ (n : ℕ). convert_rules (U16 n) kind.U8) (λ n. convert_no_zero (U16 n) kind.U8) 0 src);
-  u16_to_f32_lem = λ src dst. numbered_by (by_its_rules.u16_to_f32_lem src dst) (each_absent 0 (λ (n : ℕ). convert_rules (U16 n) kind.F32) (λ n. convert_no_zero (U16 n) kind.F32) 0 src);
-  f32_to_u16_lem = λ src dst. numbered_by (by_its_rules.f32_to_u16_lem src dst) (each_absent 0 (λ (x : Float). convert_rules (F32 x 0) kind.U16) (λ x. convert_no_zero (F32 x 0) kind.U16) 0 src);
+  row_clamp =
+      λ lower upper row. numbered_by (by_its_rules.row_clamp (bounds_of lower upper) row)
+      (each_absent 0 (λ (x : Float). unordered 0 (sample_order x (bounds_of lower upper).lower) ∷ []) (λ x. refl) 0 row);
+  u8_to_u16_lem =
+      λ src dst. numbered_by (by_its_rules.u8_to_u16_lem src dst)
+      (each_absent 0 (λ (n : ℕ). convert_rules (U8 n) kind.U16) (λ n. convert_no_zero (U8 n) kind.U16) 0 src);
+  u16_to_u8_lem =
+      λ src dst. numbered_by (by_its_rules.u16_to_u8_lem src dst)
+      (each_absent 0 (λ (n : ℕ). convert_rules (U16 n) kind.U8) (λ n. convert_no_zero (U16 n) kind.U8) 0 src);
+  u16_to_f32_lem =
+      λ src dst. numbered_by (by_its_rules.u16_to_f32_lem src dst)
+      (each_absent 0 (λ (n : ℕ). convert_rules (U16 n) kind.F32) (λ n. convert_no_zero (U16 n) kind.F32) 0 src);
+  f32_to_u16_lem =
+      λ src dst. numbered_by (by_its_rules.f32_to_u16_lem src dst)
+      (each_absent 0 (λ (x : Float). convert_rules (F32 x 0) kind.U16) (λ x. convert_no_zero (F32 x 0) kind.U16) 0 src);
 }
 
 nothing_lost : NothingLost

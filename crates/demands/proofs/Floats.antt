@@ -14,7 +14,8 @@ use Rattle.float.specs.Format.{Format, f16, f32, f64, fraction_of, exponent_of, 
 use Rattle.float.specs.Format as float-format
 use Rattle.float.specs.Number.{Number, number, infinity_of, times}
 use Rattle.float.specs.Number as float-number
-use Rattle.float.specs.Order.{order_z, order_of, pattern_of, is_equal, is_not_equal, is_less, is_less_or_equal, is_greater, is_greater_or_equal, compare_in, pattern_in}
+use Rattle.float.specs.Order.{order_z, order_of, pattern_of, is_equal, is_not_equal, is_less, is_less_or_equal, is_greater, is_greater_or_equal}
+use Rattle.float.specs.Order.{compare_in, pattern_in}
 use Rattle.float.specs.Order as float_order
 use Rattle.float.proofs.Formats.{two_or_more}
 use Rattle.float.proofs.Tests.{clash}

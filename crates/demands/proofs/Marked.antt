@@ -17,7 +17,8 @@ use Rattle.value.specs.Rules.{each_of}
 use Rattle.demands.specs.Marked.{answer_to, marked, AllAnswered}
 
 pub all_answered : AllAnswered marked
-unfolding answer_to marked class_of scaled_of compare_of total_of convert_of into_of made_in held_in encode_of clamp_of clamped_by lexical.compare_of lexical_of shapes_differ
+unfolding answer_to marked class_of scaled_of compare_of total_of convert_of into_of
+    made_in held_in encode_of clamp_of clamped_by lexical.compare_of lexical_of shapes_differ
     write_of write_exit each_of key_of big_endian read_of key_numbers bytes_in from_big_endian
     unit step_of float_bits pattern_of mag_of abs_of position_of to_bits of_bits of_fields odd size span climb is_nan
 all_answered = refl

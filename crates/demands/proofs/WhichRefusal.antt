@@ -172,12 +172,14 @@ module _ (v : Value) (to : Kind) (o : Other v to) where
     number_is : value.number_of v ≡ number (signed_of s m)
     number_is = ap number_of q
 
-    by_tests : {z a b c : Bool} → masked (form_of to) s m ≡ z → fractional (form_of to) s m ≡ a → out_of_form (form_of to) s m ≡ b → not_held_in (form_of to) m ≡ c
+    by_tests : {z a b c : Bool} → masked (form_of to) s m ≡ z → fractional (form_of to) s m ≡ a →
+        out_of_form (form_of to) s m ≡ b → not_held_in (form_of to) m ≡ c
         → convert_of v to ≡ last_four z a b c (made_in to (finite s m))
     by_tests i j k l = answers (finite s m) q ∙ cc (i, j, k, l)
 
     tested : (n : ℕ) → convert_of v to ≡ refuses n 0
-        → last_four (masked (form_of to) s m) (fractional (form_of to) s m) (out_of_form (form_of to) s m) (not_held_in (form_of to) m) (made_in to (finite s m))
+        → last_four (masked (form_of to) s m) (fractional (form_of to) s m)
+        (out_of_form (form_of to) s m) (not_held_in (form_of to) m) (made_in to (finite s m))
         ≡ refuses n 0
     tested n h = sym (by_tests refl refl refl refl) ∙ h
 

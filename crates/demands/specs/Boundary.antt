@@ -19,7 +19,8 @@ use Rattle.key.specs.Key.{write_rules, read_rules}
 use Rattle.silamogo.specs.declared.Sample.{Sample}
 use Rattle.silamogo.specs.Answer.{Numbered, answered_of, ordered_of, classed_of, positioned_of, kind_and_bits, sampled_of, measured_of, bounds_of}
 use Rattle.silamogo.specs.Samples.{unnamed, kind_for, too_wide, value_for}
-use Rattle.silamogo.specs.Single.{two_rules, compare_of, total_of, min_of, max_of, three_rules, clamp_of, kind_rules, convert_of, float_rules, classify_of, sample_position}
+use Rattle.silamogo.specs.Single.{two_rules, compare_of, total_of, min_of, max_of, three_rules, clamp_of, kind_rules, convert_of, float_rules}
+use Rattle.silamogo.specs.Single.{classify_of, sample_position}
 use Rattle.silamogo.specs.Records.{paired_samples, record_for, shape_for, two_records_rules, records_order, field_rules, key_length, key_exit, room_rules}
 use Rattle.silamogo.specs.Records.{record_read, read_exit, success_of}
 use Rattle.sample.specs.Samples.{samples_of}
@@ -47,7 +48,8 @@ pub record ByBoundaryRules : Type 0 where
   pub total_order : (a b : Sample) → By (two_rules a b ++ value_rules (value_for a) (value_for b)) (total_of a b)
   pub min : (a b : Sample) → By (two_rules a b ++ choice_rules (value_for a) (value_for b)) (min_of a b)
   pub max : (a b : Sample) → By (two_rules a b ++ choice_rules (value_for a) (value_for b)) (max_of a b)
-  pub clamp : (v lower upper : Sample) → By (three_rules v lower upper ++ clamp_rules (value_for v) (value_for lower) (value_for upper)) (clamp_of v lower upper)
+  pub clamp : (v lower upper : Sample) →
+      By (three_rules v lower upper ++ clamp_rules (value_for v) (value_for lower) (value_for upper)) (clamp_of v lower upper)
   pub convert : (v : Sample) (to : ℕ) → By (kind_rules v to ++ convert_rules (value_for v) (kind_for to)) (convert_of v to)
   pub compare_records : (ns xs ms ys : List ℕ)
       → By (two_records_rules ns xs ms ys ++ record_rules (record_for (paired_samples ns xs)) (record_for (paired_samples ms ys))) (records_order ns xs ms ys)

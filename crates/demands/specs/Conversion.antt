@@ -55,7 +55,8 @@ pub record Conversion : Type 0 where
   -- "infinities pass only between float kinds, NaN never"
   pub infinity_passes : (v : Value) (to : Kind) (s : Bool) (f : Format) → Other v to → exact_of v ≡ infinite s → form_of to ≡ floating f
       → (w : Value) × (convert_of v to ≡ gives w) × (exact_of w ≡ infinite s)
-  pub infinity_stops : (v : Value) (to : Kind) (s : Bool) → Other v to → exact_of v ≡ infinite s → is_integer (form_of to) ≡ true → convert_of v to ≡ refuses 2 0
+  pub infinity_stops : (v : Value) (to : Kind) (s : Bool) → Other v to →
+      exact_of v ≡ infinite s → is_integer (form_of to) ≡ true → convert_of v to ≡ refuses 2 0
   pub nan_never : (v : Value) (to : Kind) → Other v to → exact_of v ≡ not_number → convert_of v to ≡ refuses 1 0
   -- "The same kind gives back the same bits": the value itself
   pub same_kind : (v : Value) → convert_of v (kind_of v) ≡ gives v

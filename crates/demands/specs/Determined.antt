@@ -29,7 +29,7 @@ OnlyOne {R} contract = (r s : R) → contract r → contract s → r ≡ s
 pub record Determined : Type 1 where
   -- `r ≡ spec`: a number, a class, an order, a record beside its outcome, a lent row itself
   pub plain : {R : Type 0} (spec : R) → OnlyOne (λ (r : R). r ≡ spec)
-  -- `outcomeOf r ≡ spec`, for each enum
+  -- `outcome_of r ≡ spec`, for each enum
   pub compared : (spec : Outcome Order) → OnlyOne (λ (r : Compared). compared_outcome r ≡ spec)
   pub tested : (spec : Outcome Bool) → OnlyOne (λ (r : Tested). tested_outcome r ≡ spec)
   pub chosen : (spec : Outcome Value) → OnlyOne (λ (r : Chosen). chosen_outcome r ≡ spec)

@@ -47,7 +47,7 @@ module _ (h : ℕ) where
   shifted_below (pos n) l = omega arith
   shifted_below (negsuc n) l = omega arith
 
-  -- the key with its highest bit turned is the two's complement; the second rest is that of valueOf
+  -- the key with its highest bit turned is the two's complement; the second rest is that of value_of
   abbrev pub turned : ℕ → ℕ
   turned n = (n + h) % (2 * h) % (2 * h)
 

@@ -42,7 +42,8 @@ pairs_length [] bs q = refl
 pairs_length (n ∷ ns) [] q = absurd (omega arith)
 pairs_length (n ∷ ns) (b ∷ bs) q = ap suc (pairs_length ns bs (omega arith))
 
-pair_at_lem : (ns bs : List ℕ) → length ns ≡ length bs → (at : ℕ) → get_or (paired_samples ns bs) at (sample_for 0 0) ≡ sample_for (get_or ns at 0) (get_or bs at 0)
+pair_at_lem : (ns bs : List ℕ) → length ns ≡ length bs → (at : ℕ) →
+    get_or (paired_samples ns bs) at (sample_for 0 0) ≡ sample_for (get_or ns at 0) (get_or bs at 0)
 unfolding paired_samples
 pair_at_lem [] [] q at = refl
 pair_at_lem [] (b ∷ bs) q at = absurd (omega arith)
@@ -64,7 +65,8 @@ module _ (ns bs : List ℕ) (even : length ns ≡ length bs) where
   module _ (at : ℕ) (fitting : Fitting ns bs at) where
     module _ (h : at < length ns) {t : Bool} (q : t ≡ too_wide (sample_for (get_or ns at 0) (get_or bs at 0))) where
       pair_here : drop at ss ≡ sample_for (get_or ns at 0) (get_or bs at 0) ∷ drop (suc at) ss
-      pair_here = drop-cons ss at (sample_for 0 0) (omega (arith, pairs_length ns bs even)) ∙ ap (λ (s : Sample). s ∷ drop (suc at) ss) (pair_at_lem ns bs even at)
+      pair_here =
+          drop-cons ss at (sample_for 0 0) (omega (arith, pairs_length ns bs even)) ∙ ap (λ (s : Sample). s ∷ drop (suc at) ss) (pair_at_lem ns bs even at)
 
       pub fitting_stop : t ≡ true → at ≡ first_wide ss
       unfolding first_wide
@@ -86,5 +88,6 @@ module _ (ns bs : List ℕ) (even : length ns ≡ length bs) where
   pub fields_length : length (map field_in ss) ≡ length ns
   fields_length = length-map ss field_in ∙ pairs_length ns bs even
 
-  pub field_at : (at : ℕ) {v : Value} → v ≡ value_for (sample_for (get_or ns at 0) (get_or bs at 0)) → field_for v ≡ get_or (map field_in ss) at (field_in (sample_for 0 0))
+  pub field_at : (at : ℕ) {v : Value} → v ≡ value_for (sample_for (get_or ns at 0) (get_or bs at 0)) →
+      field_for v ≡ get_or (map field_in ss) at (field_in (sample_for 0 0))
   field_at at q = ap field_for q ∙ sym (get_or-map field_in ss at (sample_for 0 0) ∙ ap field_in (pair_at_lem ns bs even at))
