@@ -1,4 +1,6 @@
 // A file read in turns, block after block, whatever a turn does with its block (docs/RULES.md: Migration).
+#![tactic(auto)]
+
 mod reads;
 
 pub use reads::{Block, Got, fill, read_block};
