@@ -1,73 +1,154 @@
-// Files: IN opened and held against itself, and names that are taken.
+// Files: IN opened and held against itself, names that are taken, and the numbers of the system's errors.
 ghost use Rattle.std.specs.Prelude.{◌≡◌, length};
-ghost use Rattle.libc.specs.Io.{Ended};
 
 use crate::formats::put_if_container;
 use crate::lines::{put_error, put_failure};
 use migration::Watch;
-use value::{Value, bits_of};
+use std::env::FillError;
+use std::fs;
+use std::fs::{File, OpenOptions};
+use std::io;
+use std::io::{IsTerminal, Seek, SeekFrom};
+use std::os::fd::AsRawFd;
+use std::rt::Env;
 
-// IN for reading, or a negative number after a line that says why.
-pub(crate) fn open_in(in_arg: usize, raw: bool) -> i32 {
-    let mut path = io::buffer();
-    let n = os::arg(in_arg, &mut path);
-    if os::errno() == libc::ENAMETOOLONG {
-        put_failure(b"IN can't be opened", libc::ENAMETOOLONG);
-        return -1;
+// The system's numbers for a name that is too long, and for one that is no text: the library opens no other.
+pub(crate) const ENAMETOOLONG: i32 = 36;
+
+const EILSEQ: i32 = 84;
+
+// The system's number of an error, 0 where it has none.
+pub(crate) fn number_of(e: io::Error) -> i32 {
+    e.raw_os_error().unwrap_or(0)
+}
+
+// Puts an argument at the front of a buffer: how many bytes it has, 0 where there is none. Of one that is longer, its front fills the buffer.
+pub(crate) fn argument(rt: HostRuntime, i: usize, buf: &mut [u8]) -> usize
+    ensures { result ≤ length buf.new }
+{
+    match rt.arg(i, buf) {
+        Ok(n) => n,
+        Err(FillError::TooLong) => buf.len(),
+        Err(FillError::NotPresent) => 0,
     }
-    let input = os::open_read(&path[..n]);
-    if input < 0 {
-        put_failure(b"IN can't be opened", os::errno());
-        return -1;
+}
+
+// Whether there is an argument of this number, be it empty.
+pub(crate) fn is_argument(rt: HostRuntime, i: usize) -> bool {
+    let mut front = [0u8; 8];
+    match rt.arg(i, &mut front) {
+        Err(FillError::NotPresent) => false,
+        _ => true,
     }
-    if is_standard(input) {
-        libc::close(input);
-        return -1;
+}
+
+// An argument as a path, or the number of an error: it is longer than a path may be, or no text.
+pub(crate) fn path_in(rt: HostRuntime, i: usize, buf: &mut [u8; 4096]) -> Result<&str, i32> {
+    let n = match rt.arg(i, buf) {
+        Ok(n) => n,
+        Err(FillError::TooLong) => return Err(ENAMETOOLONG),
+        Err(FillError::NotPresent) => 0,
+    };
+    text_of(&buf[..n])
+}
+
+// Bytes as text.
+pub(crate) fn text_of(bytes: &[u8]) -> Result<&str, i32> {
+    match str::from_utf8(bytes) {
+        Ok(text) => Ok(text),
+        Err(_) => Err(EILSEQ),
+    }
+}
+
+// IN for reading, or nothing after a line that says why.
+pub(crate) fn open_in(rt: HostRuntime, in_arg: usize, raw: bool) -> Option<File> {
+    let mut buf = [0u8; 4096];
+    let path = match path_in(rt, in_arg, &mut buf) {
+        Ok(path) => path,
+        Err(errno) => {
+            put_failure(rt, b"IN can't be opened", errno);
+            return None;
+        }
+    };
+    let input = match File::open(&rt, path) {
+        Ok(input) => input,
+        Err(e) => {
+            put_failure(rt, b"IN can't be opened", number_of(e));
+            return None;
+        }
+    };
+    if is_standard(rt, &input) {
+        return None;
     }
     if raw {
-        return input;
+        return Some(input);
     }
-    if put_if_container(input) {
-        libc::close(input);
-        return -1;
+    if put_if_container(rt, &input) {
+        return None;
     }
-    input
+    Some(input)
 }
 
 // A file that got the number of standard input, output or error, as that was closed, would have lines written into it: a line says so.
-pub(crate) fn is_standard(file: i32) -> bool {
-    if file > libc::STDERR_FILENO {
+pub(crate) fn is_standard(rt: HostRuntime, file: &File) -> bool {
+    if file.as_raw_fd() > 2 {
         return false;
     }
-    put_error(b"standard input, output or error is closed: open it, on /dev/null for instance");
+    put_error(
+        rt,
+        b"standard input, output or error is closed: open it, on /dev/null for instance",
+    );
     true
 }
 
-// How many bytes a file has, or a negative number where the system doesn't say, as of a pipe. The next read is from its start.
-pub(crate) fn size_of(file: i32) -> i64 {
-    let size = libc::lseek(file, 0, libc::SEEK_END);
-    libc::lseek(file, 0, libc::SEEK_SET);
+// How many bytes a file has; nothing where the system doesn't say, as of a pipe. The next read is from its start.
+pub(crate) fn size_of(file: &mut File) -> Option<u64> {
+    let size = end_of(file);
+    let _ = file.seek(SeekFrom::Start(0));
     size
 }
 
-// Whether a file of this size has another by now, or more or less was read of it.
-pub(crate) fn is_changed(file: i32, size: i64) -> bool {
-    if size < 0 {
-        return false;
+fn end_of(file: &mut File) -> Option<u64> {
+    match file.seek(SeekFrom::End(0)) {
+        Ok(size) => Some(size),
+        Err(_) => None,
     }
-    let read = libc::lseek(file, 0, libc::SEEK_CUR);
-    (read != size) | (libc::lseek(file, 0, libc::SEEK_END) != size)
 }
 
-// Lines of progress are for a terminal, or for who asks for them. Of a number that isn't negative, the bits are the number.
-pub(crate) fn watched(progress: bool, size: i64) -> Watch {
+fn place_in(file: &mut File) -> Option<u64> {
+    match file.stream_position() {
+        Ok(place) => Some(place),
+        Err(_) => None,
+    }
+}
+
+// Whether a file of this size has another by now, or more or less was read of it.
+pub(crate) fn is_changed(file: &mut File, size: Option<u64>) -> bool {
+    let Some(size) = size else {
+        return false;
+    };
+    let read = place_in(file);
+    let now = end_of(file);
+    !(is_number(read, size) & is_number(now, size))
+}
+
+fn is_number(found: Option<u64>, n: u64) -> bool {
+    match found {
+        Some(m) => m == n,
+        None => false,
+    }
+}
+
+// Whether a file has no byte; no file that has no length has none.
+pub(crate) fn is_empty(file: &mut File) -> bool {
+    is_number(end_of(file), 0)
+}
+
+// Lines of progress are for a terminal, or for who asks for them.
+pub(crate) fn watched(rt: HostRuntime, progress: bool, size: Option<u64>) -> Watch {
     Watch {
-        wanted: progress | (libc::isatty(libc::STDERR_FILENO) == 1),
-        bytes: if size < 0 {
-            0
-        } else {
-            bits_of(Value::I64(size))
-        },
+        wanted: progress | rt.stderr().is_terminal(),
+        bytes: size.unwrap_or(0),
         second: 0,
     }
 }
@@ -87,7 +168,7 @@ fn byte_of(path: &[u8], tail: &[u8], i: usize) -> u8 {
 pub(crate) fn joined(path: &[u8], tail: &[u8]) -> [u8; 4096]
     ensures { 4096 ≡ length result }
 {
-    let mut all = io::buffer();
+    let mut all = [0u8; 4096];
     let mut i = 0;
     while i < 4096 {
         all[i] = byte_of(path, tail, i);
@@ -96,21 +177,7 @@ pub(crate) fn joined(path: &[u8], tail: &[u8]) -> [u8; 4096]
     all
 }
 
-// A path as C takes it: the last byte is 0.
-fn ended(path: &[u8]) -> [u8; 4096]
-    ensures { Ended result }
-{
-    let mut p = joined(path, b"");
-    p[4095] = 0;
-    p
-}
-
 // Whether something has this name, be it a link that leads nowhere.
-pub(crate) fn is_taken(path: &[u8]) -> bool {
-    let p = ended(path);
-    if libc::access(&p, libc::F_OK) == 0 {
-        return true;
-    }
-    let mut link = [0u8; 8];
-    libc::readlink(&p, &mut link) >= 0
+pub(crate) fn is_taken(rt: HostRuntime, path: &str) -> bool {
+    fs::symlink_metadata(&rt, path).is_ok()
 }

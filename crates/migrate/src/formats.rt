@@ -1,15 +1,17 @@
 // Files that are no raw samples, by the four bytes or more with which they begin.
 use crate::lines::put_text;
 use sample::sample_at;
+use std::fs::File;
+use std::os::unix::fs::FileExt;
 use text::nth_word;
 use value::{Kind, bits_of};
 
 const NAMES: [u8; 34] = *b"NPY TIFF PNG JPEG-2000 OpenEXR ZIP";
 
 // Whether a file begins as one of these formats does; then a line says which. A pipe isn't looked at, as it can't be read twice.
-pub(crate) fn put_if_container(input: i32) -> bool {
+pub(crate) fn put_if_container(rt: HostRuntime, input: &File) -> bool {
     let mut head = [0u8; 8];
-    if libc::pread(input, &mut head, 0) < 4 {
+    if input.read_at(&mut head, 0).unwrap_or(0) < 4 {
         return false;
     }
     let format = format_of(
@@ -19,9 +21,12 @@ pub(crate) fn put_if_container(input: i32) -> bool {
     if format > 5 {
         return false;
     }
-    put_text(b"error=IN begins as a file of ");
-    put_text(nth_word(&NAMES, format));
-    put_text(b" does, and not with a sample; if these are raw samples, say so by --raw\n");
+    put_text(rt, b"error=IN begins as a file of ");
+    put_text(rt, nth_word(&NAMES, format));
+    put_text(
+        rt,
+        b" does, and not with a sample; if these are raw samples, say so by --raw\n",
+    );
     true
 }
 

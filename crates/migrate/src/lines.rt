@@ -1,122 +1,146 @@
 // The lines of an answer, on standard output.
+use crate::files::ENAMETOOLONG;
 use crate::sentences::put_why;
-use libc::STDOUT_FILENO;
 use look::Found;
-use std::num::{wrapping_add_u64, wrapping_sub_u64};
 use text::{KIND_NAMES, digits_of, nth_word};
 use value::{Kind, Layout, Refusal, Value, bits_of, kind_number, kind_of, layout_of};
 
-pub(crate) fn put_number(name: &[u8], n: u64) {
-    io::write_all(STDOUT_FILENO, name);
-    io::print_decimal(STDOUT_FILENO, n);
-    io::write_all(STDOUT_FILENO, b"\n");
+// The system's numbers that have words of their own here.
+const ENOENT: i32 = 2;
+
+const EIO: i32 = 5;
+
+const EACCES: i32 = 13;
+
+const EEXIST: i32 = 17;
+
+const ENOTDIR: i32 = 20;
+
+const EISDIR: i32 = 21;
+
+const EFBIG: i32 = 27;
+
+const ENOSPC: i32 = 28;
+
+const EROFS: i32 = 30;
+
+// A line that can't be written is lost, and nothing else.
+pub(crate) fn put_text(rt: HostRuntime, s: &[u8]) {
+    let _ = rt.write_all(s);
+}
+
+fn put_decimal(rt: HostRuntime, n: u64) {
+    let _ = rt.print(n);
+}
+
+// In as many digits.
+fn put_hex(rt: HostRuntime, n: u64, digits: usize) {
+    let _ = print!(rt; "{n:0digits$x}");
+}
+
+pub(crate) fn put_number(rt: HostRuntime, name: &[u8], n: u64) {
+    put_text(rt, name);
+    put_decimal(rt, n);
+    put_text(rt, b"\n");
 }
 
 // A sample, or `-` where there is none.
-pub(crate) fn put_found(name: &[u8], f: Found) {
-    io::write_all(STDOUT_FILENO, name);
+pub(crate) fn put_found(rt: HostRuntime, name: &[u8], f: Found) {
+    put_text(rt, name);
     match f {
-        Found::Is(v) => put_value(v),
-        Found::Nothing => put_text(b"-"),
+        Found::Is(v) => put_value(rt, v),
+        Found::Nothing => put_text(rt, b"-"),
     }
-    io::write_all(STDOUT_FILENO, b"\n");
+    put_text(rt, b"\n");
 }
 
 // An integer in decimal, a float by its bits.
-fn put_value(v: Value) {
+fn put_value(rt: HostRuntime, v: Value) {
     let bits = bits_of(v);
     let k = kind_of(v);
     match layout_of(k) {
-        Layout::Unsigned(_) => put_decimal(bits),
-        Layout::Signed(width) => put_signed(bits, 1 << (width - 1)),
-        Layout::Float(_, _) => put_bits(k, bits),
+        Layout::Unsigned(_) => put_decimal(rt, bits),
+        Layout::Signed(width) => put_signed(rt, bits, 1 << (width - 1)),
+        Layout::Float(_, _) => put_bits(rt, k, bits),
     }
 }
 
-pub(crate) fn put_text(s: &[u8]) {
-    io::write_all(STDOUT_FILENO, s);
-}
-
-fn put_decimal(n: u64) {
-    io::print_decimal(STDOUT_FILENO, n);
-}
-
 // Two's complement: patterns from half on are negative, and what they lack to twice half is the magnitude. Twice 2^63 is 0 here.
-fn put_signed(bits: u64, half: u64) {
+fn put_signed(rt: HostRuntime, bits: u64, half: u64) {
     if bits < half {
-        put_decimal(bits);
+        put_decimal(rt, bits);
     } else {
-        put_text(b"-");
-        put_decimal(wrapping_sub_u64(wrapping_add_u64(half, half), bits));
+        put_text(rt, b"-");
+        put_decimal(rt, half.wrapping_add(half).wrapping_sub(bits));
     }
 }
 
 // The name of the kind, and hex digits.
-fn put_bits(k: Kind, bits: u64) {
-    put_text(nth_word(&KIND_NAMES, kind_number(k) as usize));
-    put_text(b":");
-    io::print_hex(STDOUT_FILENO, bits, digits_of(k));
+fn put_bits(rt: HostRuntime, k: Kind, bits: u64) {
+    put_text(rt, nth_word(&KIND_NAMES, kind_number(k) as usize));
+    put_text(rt, b":");
+    put_hex(rt, bits, digits_of(k));
 }
 
 // The number, the place, the sample if there is one, and what the number means.
-pub(crate) fn put_refusal(f: Refusal, sample: Found) {
-    put_number(b"refused=", f.number as u64);
-    put_number(b"place=", f.place as u64);
+pub(crate) fn put_refusal(rt: HostRuntime, f: Refusal, sample: Found) {
+    put_number(rt, b"refused=", f.number as u64);
+    put_number(rt, b"place=", f.place as u64);
     if let Found::Is(v) = sample {
-        put_text(b"sample=");
-        put_bits(kind_of(v), bits_of(v));
-        put_text(b"\n");
+        put_text(rt, b"sample=");
+        put_bits(rt, kind_of(v), bits_of(v));
+        put_text(rt, b"\n");
     }
-    put_why(f.number);
+    put_why(rt, f.number);
 }
 
 // An argument that names no kind.
-pub(crate) fn put_no_kind(name: &[u8]) {
-    io::write_all(STDOUT_FILENO, b"error=");
-    io::write_all(STDOUT_FILENO, name);
-    io::write_all(STDOUT_FILENO, b" is no kind: ");
-    io::write_all(STDOUT_FILENO, &KIND_NAMES);
-    io::write_all(STDOUT_FILENO, b"\n");
+pub(crate) fn put_no_kind(rt: HostRuntime, name: &[u8]) {
+    put_text(rt, b"error=");
+    put_text(rt, name);
+    put_text(rt, b" is no kind: ");
+    put_text(rt, &KIND_NAMES);
+    put_text(rt, b"\n");
 }
 
-pub(crate) fn put_error(what: &[u8]) {
-    io::write_all(STDOUT_FILENO, b"error=");
-    io::write_all(STDOUT_FILENO, what);
-    io::write_all(STDOUT_FILENO, b"\n");
+pub(crate) fn put_error(rt: HostRuntime, what: &[u8]) {
+    put_text(rt, b"error=");
+    put_text(rt, what);
+    put_text(rt, b"\n");
 }
 
 // What failed, and why by the system's number.
-pub(crate) fn put_failure(what: &[u8], errno: i32) {
-    io::write_all(STDOUT_FILENO, b"error=");
-    io::write_all(STDOUT_FILENO, what);
-    io::write_all(STDOUT_FILENO, b": ");
-    put_cause(errno);
-    io::write_all(STDOUT_FILENO, b"\n");
+pub(crate) fn put_failure(rt: HostRuntime, what: &[u8], errno: i32) {
+    put_text(rt, b"error=");
+    put_text(rt, what);
+    put_text(rt, b": ");
+    put_cause(rt, errno);
+    put_text(rt, b"\n");
 }
 
-fn put_cause(errno: i32) {
-    if errno == libc::ENOENT {
-        io::write_all(STDOUT_FILENO, b"there is no such file or folder");
-    } else if errno == libc::EEXIST {
-        io::write_all(STDOUT_FILENO, b"it is there already");
-    } else if errno == libc::EACCES {
-        io::write_all(STDOUT_FILENO, b"it is not permitted");
-    } else if errno == libc::EISDIR {
-        io::write_all(STDOUT_FILENO, b"it is a folder");
-    } else if errno == libc::ENOTDIR {
-        io::write_all(STDOUT_FILENO, b"a part of the path is no folder");
-    } else if errno == libc::ENOSPC {
-        io::write_all(STDOUT_FILENO, b"no space is left");
-    } else if errno == libc::EFBIG {
-        io::write_all(STDOUT_FILENO, b"the file grows too large");
-    } else if errno == libc::ENAMETOOLONG {
-        io::write_all(STDOUT_FILENO, b"the name is too long");
-    } else if errno == libc::EROFS {
-        io::write_all(STDOUT_FILENO, b"nothing can be written there");
-    } else if errno == libc::EIO {
-        io::write_all(STDOUT_FILENO, b"the device failed");
+fn put_cause(rt: HostRuntime, errno: i32) {
+    if errno == ENOENT {
+        put_text(rt, b"there is no such file or folder");
+    } else if errno == EEXIST {
+        put_text(rt, b"it is there already");
+    } else if errno == EACCES {
+        put_text(rt, b"it is not permitted");
+    } else if errno == EISDIR {
+        put_text(rt, b"it is a folder");
+    } else if errno == ENOTDIR {
+        put_text(rt, b"a part of the path is no folder");
+    } else if errno == ENOSPC {
+        put_text(rt, b"no space is left");
+    } else if errno == EFBIG {
+        put_text(rt, b"the file grows too large");
+    } else if errno == ENAMETOOLONG {
+        put_text(rt, b"the name is too long");
+    } else if errno == EROFS {
+        put_text(rt, b"nothing can be written there");
+    } else if errno == EIO {
+        put_text(rt, b"the device failed");
     } else {
-        io::write_all(STDOUT_FILENO, b"the system refuses it, with error ");
-        put_decimal(bits_of(Value::I32(errno)));
+        put_text(rt, b"the system refuses it, with error ");
+        put_decimal(rt, bits_of(Value::I32(errno)));
     }
 }

@@ -1,17 +1,20 @@
 // Moves a file of samples from one kind to another, exactly or not at all: `migrate [OPTIONS] FROM TO IN OUT`; or looks at it before: `migrate
 // [OPTIONS] report FROM IN [TO]`. The answer is lines on standard output (docs/RULES.md: Migration, Report). What moves a file
 // is migration::run, and what looks through one migration::look_through; here are only files, arguments and lines.
+#![tactic(auto)]
+
 mod files;
 mod formats;
 mod lines;
 mod moves;
+mod names;
 mod reports;
 mod sentences;
 
+use files::{argument, is_argument};
 use lines::{put_error, put_no_kind};
 use moves::migrate;
 use reports::report;
-use std::num::{wrapping_add_usize, wrapping_sub_usize};
 use text::{kind_named, word_number};
 use value::KindFound;
 
@@ -25,21 +28,32 @@ pub(crate) struct Options {
     pub into: bool,
 }
 
-fn main() {
-    let o = with_next(with_next(with_next(with_next(no_options()))));
-    let words = wrapping_sub_usize(os::arg_count(), o.first);
-    let asked = says(o.first, b"report");
+fn main(rt: HostRuntime) {
+    let o = with_next(rt, with_next(rt, with_next(rt, with_next(rt, no_options()))));
+    let words = words_behind(rt, o.first);
+    let asked = says(rt, o.first, b"report");
     if asked & (words == 3) {
-        report_alone(o);
+        report_alone(rt, o);
     } else if asked & (words == 4) {
-        report_to(o);
+        report_to(rt, o);
     } else if words == 4 {
-        move_file(o);
+        move_file(rt, o);
     } else {
         put_error(
+            rt,
             b"usage: migrate [--raw] [--progress] [--no-sync] FROM TO IN OUT, or migrate [--raw] [--progress] report FROM IN [TO]",
         );
     }
+}
+
+// How many arguments there are from one on; 5 stands for more than 4.
+fn words_behind(rt: HostRuntime, first: usize) -> usize {
+    for words in 0..5 {
+        if !is_argument(rt, first.wrapping_add(words)) {
+            return words;
+        }
+    }
+    5
 }
 
 fn no_options() -> Options {
@@ -53,15 +67,15 @@ fn no_options() -> Options {
 }
 
 // The options stand before the words; one more is taken, if the next argument is one.
-fn with_next(o: Options) -> Options {
+fn with_next(rt: HostRuntime, o: Options) -> Options {
     let mut name = [0u8; 16];
-    let n = os::arg(o.first, &mut name);
+    let n = argument(rt, o.first, &mut name);
     let option = word_number(&name[..n], b"--raw --progress --no-sync --into");
     if option > 3 {
         return o;
     }
     Options {
-        first: wrapping_add_usize(o.first, 1),
+        first: o.first.wrapping_add(1),
         raw: o.raw | (option == 0),
         progress: o.progress | (option == 1),
         unsynced: o.unsynced | (option == 2),
@@ -70,53 +84,54 @@ fn with_next(o: Options) -> Options {
 }
 
 // Whether an argument is this word.
-fn says(i: usize, word: &[u8]) -> bool {
+fn says(rt: HostRuntime, i: usize, word: &[u8]) -> bool {
     let mut name = [0u8; 8];
-    let n = os::arg(i, &mut name);
+    let n = argument(rt, i, &mut name);
     word_number(&name[..n], word) == 0
 }
 
-fn move_file(o: Options) {
-    let KindFound::Is(from) = kind_in(o, 0) else {
-        put_no_kind(b"FROM");
+fn move_file(rt: HostRuntime, o: Options) {
+    let KindFound::Is(from) = kind_in(rt, o, 0) else {
+        put_no_kind(rt, b"FROM");
         return;
     };
-    let KindFound::Is(to) = kind_in(o, 1) else {
-        put_no_kind(b"TO");
+    let KindFound::Is(to) = kind_in(rt, o, 1) else {
+        put_no_kind(rt, b"TO");
         return;
     };
     migrate(
+        rt,
         from,
         to,
-        wrapping_add_usize(o.first, 2),
-        wrapping_add_usize(o.first, 3),
+        o.first.wrapping_add(2),
+        o.first.wrapping_add(3),
         o,
     );
 }
 
-fn report_alone(o: Options) {
-    let KindFound::Is(from) = kind_in(o, 1) else {
-        put_no_kind(b"FROM");
+fn report_alone(rt: HostRuntime, o: Options) {
+    let KindFound::Is(from) = kind_in(rt, o, 1) else {
+        put_no_kind(rt, b"FROM");
         return;
     };
-    report(from, from, false, wrapping_add_usize(o.first, 2), o);
+    report(rt, from, from, false, o.first.wrapping_add(2), o);
 }
 
-fn report_to(o: Options) {
-    let KindFound::Is(from) = kind_in(o, 1) else {
-        put_no_kind(b"FROM");
+fn report_to(rt: HostRuntime, o: Options) {
+    let KindFound::Is(from) = kind_in(rt, o, 1) else {
+        put_no_kind(rt, b"FROM");
         return;
     };
-    let KindFound::Is(to) = kind_in(o, 3) else {
-        put_no_kind(b"TO");
+    let KindFound::Is(to) = kind_in(rt, o, 3) else {
+        put_no_kind(rt, b"TO");
         return;
     };
-    report(from, to, true, wrapping_add_usize(o.first, 2), o);
+    report(rt, from, to, true, o.first.wrapping_add(2), o);
 }
 
 // The kind that a word names; one that is longer than any name is none.
-fn kind_in(o: Options, word: usize) -> KindFound {
+fn kind_in(rt: HostRuntime, o: Options, word: usize) -> KindFound {
     let mut name = [0u8; 8];
-    let n = os::arg(wrapping_add_usize(o.first, word), &mut name);
+    let n = argument(rt, o.first.wrapping_add(word), &mut name);
     kind_named(&name[..n])
 }

@@ -3,111 +3,159 @@
 ghost use Rattle.std.specs.Prelude.{◌≤◌, length};
 
 use crate::Options;
-use crate::files::{is_changed, is_standard, is_taken, joined, open_in, size_of, watched};
+use crate::files::{
+    ENAMETOOLONG, is_changed, is_empty, is_standard, is_taken, joined, number_of, open_in, path_in,
+    size_of, text_of, watched,
+};
 use crate::lines::{put_error, put_failure, put_number, put_refusal};
+use crate::names::made_beside;
 use migration::{Fault, State, run};
 use row::Rowed;
+use std::fs;
+use std::fs::{File, OpenOptions};
 use value::Kind;
 
+// The system's number for what a file system can't do.
+const EINVAL: i32 = 22;
+
 // The paths of IN and OUT are arguments.
-pub(crate) fn migrate(from: Kind, to: Kind, in_arg: usize, out_arg: usize, o: Options) {
-    let input = open_in(in_arg, o.raw);
-    if input >= 0 {
-        migrate_from(input, from, to, out_arg, o);
-        libc::close(input);
+pub(crate) fn migrate(
+    rt: HostRuntime,
+    from: Kind,
+    to: Kind,
+    in_arg: usize,
+    out_arg: usize,
+    o: Options,
+) {
+    if let Some(mut input) = open_in(rt, in_arg, o.raw) {
+        migrate_from(rt, &mut input, from, to, out_arg, o);
     }
 }
 
-fn migrate_from(input: i32, from: Kind, to: Kind, out_arg: usize, o: Options) {
-    let mut path = io::buffer();
-    let n = os::arg(out_arg, &mut path);
-    if os::errno() == libc::ENAMETOOLONG {
-        put_failure(b"OUT can't be made", libc::ENAMETOOLONG);
-    } else if n == 0 {
-        put_error(b"OUT has no name");
-    } else if o.into {
-        migrate_into(input, from, to, &path[..n], o);
-    } else if is_taken(&path[..n]) {
-        put_error(b"OUT is there already, and stays as it is");
-    } else {
-        migrate_beside(input, from, to, &path[..n], o);
+fn migrate_from(
+    rt: HostRuntime,
+    input: &mut File,
+    from: Kind,
+    to: Kind,
+    out_arg: usize,
+    o: Options,
+) {
+    let mut buf = [0u8; 4096];
+    match path_in(rt, out_arg, &mut buf) {
+        Err(errno) => put_failure(rt, b"OUT can't be made", errno),
+        Ok(out) => if out.is_empty() {
+            put_error(rt, b"OUT has no name");
+        } else if o.into {
+            migrate_into(rt, input, from, to, out, o);
+        } else if is_taken(rt, out) {
+            put_error(rt, b"OUT is there already, and stays as it is");
+        } else {
+            migrate_beside(rt, input, from, to, out, o);
+        },
     }
 }
 
 // OUT is the caller's, and empty, so that no byte of anybody's is written over and nothing stands behind the output. What isn't done leaves it so.
-fn migrate_into(input: i32, from: Kind, to: Kind, out: &[u8], o: Options) {
-    let output = os::open_update(out);
-    if output < 0 {
-        put_failure(b"OUT can't be opened", os::errno());
-        return;
+fn migrate_into(rt: HostRuntime, input: &mut File, from: Kind, to: Kind, out: &str, o: Options) {
+    match OpenOptions::new().read(true).write(true).open(&rt, out) {
+        Err(e) => put_failure(rt, b"OUT can't be opened", number_of(e)),
+        Ok(mut output) => if !is_standard(rt, &output) {
+            migrate_in(rt, input, &mut output, from, to, o);
+        },
     }
-    if is_standard(output) {
-        libc::close(output);
-        return;
-    }
-    if is_filled(output) {
-        libc::close(output);
+}
+
+fn migrate_in(
+    rt: HostRuntime,
+    input: &mut File,
+    output: &mut File,
+    from: Kind,
+    to: Kind,
+    o: Options,
+) {
+    if is_filled(rt, output) {
         return;
     }
     let size = size_of(input);
-    let r = run(input, output, from, to, watched(o.progress, size));
+    let watch = watched(rt, o.progress, size);
+    let r = run(&rt, input, output, from, to, watch);
     let changed = is_changed(input, size);
     if !is_done(r, changed) {
-        libc::ftruncate(output, 0);
+        let _ = output.set_len(0);
     }
-    let failure = stored(output, false);
-    if failure != 0 {
-        put_failure(b"OUT can't be closed", failure);
-        return;
-    }
-    put_answer(r, changed);
+    put_answer(rt, r, changed);
 }
 
 // Whether a file that should be empty isn't, or isn't one that has a length; then a line says so.
-fn is_filled(file: i32) -> bool {
-    if libc::lseek(file, 0, libc::SEEK_END) == 0 {
+fn is_filled(rt: HostRuntime, file: &mut File) -> bool {
+    if is_empty(file) {
         return false;
     }
-    put_error(b"OUT is not empty, or not a regular file");
+    put_error(rt, b"OUT is not empty, or not a regular file");
     true
 }
 
-// The file beside OUT is called as OUT is, with `.part-XXXXXX` behind it: the system puts other letters for the last six, so that it is this run's alone.
-fn migrate_beside(input: i32, from: Kind, to: Kind, out: &[u8], o: Options) {
+// The file beside OUT is called as OUT is, with `.part-XXXXXX` behind it: other letters for the last six make it this run's alone.
+fn migrate_beside(rt: HostRuntime, input: &mut File, from: Kind, to: Kind, out: &str, o: Options) {
     if out.len() > 4083 {
-        put_failure(b"OUT can't be made", libc::ENAMETOOLONG);
+        put_failure(rt, b"OUT can't be made", ENAMETOOLONG);
         return;
     }
     let n = out.len() + 12;
-    let mut part = joined(out, b".part-XXXXXX");
-    migrate_to(input, from, to, out, &mut part[..n], o);
+    let mut part = joined(out.as_bytes(), b".part-XXXXXX");
+    migrate_to(rt, input, from, to, out, &mut part[..n], o);
 }
 
-fn migrate_to(input: i32, from: Kind, to: Kind, out: &[u8], part: &mut [u8], o: Options) {
-    let output = os::create_temp(part);
-    if output < 0 {
-        put_failure(b"no file can be made beside OUT", os::errno());
-        return;
+fn migrate_to(
+    rt: HostRuntime,
+    input: &mut File,
+    from: Kind,
+    to: Kind,
+    out: &str,
+    part: &mut [u8],
+    o: Options,
+) {
+    let made = made_beside(rt, part);
+    match (made, text_of(part)) {
+        (Ok(output), Ok(part)) => migrate_through(rt, input, output, from, to, out, part, o),
+        (Err(errno), _) => put_failure(rt, b"no file can be made beside OUT", errno),
+        (_, Err(errno)) => put_failure(rt, b"no file can be made beside OUT", errno),
     }
-    if is_standard(output) {
-        libc::close(output);
-        os::unlink(part);
+}
+
+fn migrate_through(
+    rt: HostRuntime,
+    input: &mut File,
+    mut output: File,
+    from: Kind,
+    to: Kind,
+    out: &str,
+    part: &str,
+    o: Options,
+) {
+    if is_standard(rt, &output) {
+        removed(rt, part);
         return;
     }
     let size = size_of(input);
-    let r = run(input, output, from, to, watched(o.progress, size));
+    let watch = watched(rt, o.progress, size);
+    let r = run(&rt, input, &mut output, from, to, watch);
     let changed = is_changed(input, size);
     let done = is_done(r, changed);
     let failure = stored(output, done & !o.unsynced);
     if !done {
-        os::unlink(part);
-        put_answer(r, changed);
+        removed(rt, part);
+        put_answer(rt, r, changed);
     } else if failure != 0 {
-        os::unlink(part);
-        put_failure(b"OUT can't be brought to the disk", failure);
-    } else if named(part, out, o) {
-        put_answer(r, changed);
+        removed(rt, part);
+        put_failure(rt, b"OUT can't be brought to the disk", failure);
+    } else if named(rt, part, out, o) {
+        put_answer(rt, r, changed);
     }
+}
+
+fn removed(rt: HostRuntime, part: &str) {
+    let _ = fs::remove_file(&rt, part);
 }
 
 // Whether the run came to its end, nothing is refused, and IN is what it was.
@@ -129,39 +177,38 @@ fn is_given(answer: Rowed) -> bool {
 }
 
 // Brings a file to the disk, if that is asked for, and closes it: the number of the error, 0 for none.
-fn stored(file: i32, synced: bool) -> i32 {
+fn stored(file: File, synced: bool) -> i32 {
     if synced {
-        if libc::fsync(file) < 0 {
-            let errno = os::errno();
-            libc::close(file);
-            return errno;
+        if let Err(e) = file.sync_all() {
+            return number_of(e);
         }
-    }
-    if libc::close(file) < 0 {
-        return os::errno();
     }
     0
 }
 
 // Gives the output its name, unless something has it by now, and brings the folder to the disk: whether all went well; else a line says why.
-fn named(part: &[u8], out: &[u8], o: Options) -> bool {
-    if is_taken(out) {
-        os::unlink(part);
-        put_error(b"OUT is there by now, and stays as it is");
+fn named(rt: HostRuntime, part: &str, out: &str, o: Options) -> bool {
+    if is_taken(rt, out) {
+        removed(rt, part);
+        put_error(rt, b"OUT is there by now, and stays as it is");
         return false;
     }
-    if os::rename(part, out) < 0 {
-        let errno = os::errno();
-        os::unlink(part);
-        put_failure(b"the output can't be given the name OUT", errno);
+    if let Err(e) = fs::rename(&rt, part, out) {
+        removed(rt, part);
+        put_failure(
+            rt,
+            b"the output can't be given the name OUT",
+            number_of(e),
+        );
         return false;
     }
     if o.unsynced {
         return true;
     }
-    let errno = folder_stored(out);
-    if (errno != 0) & (errno != libc::EINVAL) {
+    let errno = folder_stored(rt, out.as_bytes());
+    if (errno != 0) & (errno != EINVAL) {
         put_failure(
+            rt,
             b"OUT is whole, but its folder can't be brought to the disk",
             errno,
         );
@@ -185,42 +232,45 @@ fn folder_bytes(path: &[u8]) -> usize
 }
 
 // The number of the error, 0 for none; EINVAL on a file system that can't do this with a folder.
-fn folder_stored(path: &[u8]) -> i32 {
+fn folder_stored(rt: HostRuntime, path: &[u8]) -> i32 {
     let k = folder_bytes(path);
-    let folder = if k == 0 {
-        os::open_read(b".")
+    let opened = if k == 0 {
+        File::open(&rt, ".")
     } else {
-        os::open_read(&path[..k])
+        match text_of(&path[..k]) {
+            Ok(folder) => File::open(&rt, folder),
+            Err(errno) => return errno,
+        }
     };
-    if folder < 0 {
-        return os::errno();
+    match opened {
+        Ok(folder) => stored(folder, true),
+        Err(e) => number_of(e),
     }
-    stored(folder, true)
 }
 
 // The lines of the answer.
-fn put_answer(r: State, changed: bool) {
+fn put_answer(rt: HostRuntime, r: State, changed: bool) {
     let fault = r.fault;
     match fault {
-        Fault::Reading(errno) => put_failure(b"IN can't be read", errno),
-        Fault::Writing(errno) => put_failure(b"OUT can't be written", errno),
+        Fault::Reading(errno) => put_failure(rt, b"IN can't be read", errno),
+        Fault::Writing(errno) => put_failure(rt, b"OUT can't be written", errno),
         Fault::Nothing => {
             if changed {
-                put_error(b"IN changed while it was read");
+                put_error(rt, b"IN changed while it was read");
             } else {
-                put_result(r);
+                put_result(rt, r);
             }
         }
     }
 }
 
-fn put_result(r: State) {
+fn put_result(rt: HostRuntime, r: State) {
     let progress = r.progress;
     let sample = r.sample;
     let answer = progress.answer;
-    put_number(b"samples=", progress.samples as u64);
+    put_number(rt, b"samples=", progress.samples as u64);
     match answer {
-        Rowed::Done => put_number(b"refused=", 0),
-        Rowed::Refused(f) => put_refusal(f, sample),
+        Rowed::Done => put_number(rt, b"refused=", 0),
+        Rowed::Refused(f) => put_refusal(rt, f, sample),
     }
 }

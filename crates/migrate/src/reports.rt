@@ -9,50 +9,56 @@ use row::Rowed;
 use value::Kind;
 
 // The path of IN is an argument; `asked` is whether the lines on TO are wanted.
-pub(crate) fn report(from: Kind, to: Kind, asked: bool, in_arg: usize, o: Options) {
-    let input = open_in(in_arg, o.raw);
-    if input >= 0 {
-        let size = size_of(input);
-        let r = look_through(input, from, to, watched(o.progress, size));
-        let changed = is_changed(input, size);
-        libc::close(input);
-        put_look(r, changed, asked);
+pub(crate) fn report(
+    rt: HostRuntime,
+    from: Kind,
+    to: Kind,
+    asked: bool,
+    in_arg: usize,
+    o: Options,
+) {
+    if let Some(mut input) = open_in(rt, in_arg, o.raw) {
+        let size = size_of(&mut input);
+        let watch = watched(rt, o.progress, size);
+        let r = look_through(&rt, &mut input, from, to, watch);
+        let changed = is_changed(&mut input, size);
+        put_look(rt, r, changed, asked);
     }
 }
 
-fn put_look(r: Look, changed: bool, asked: bool) {
+fn put_look(rt: HostRuntime, r: Look, changed: bool, asked: bool) {
     let fault = r.fault;
     let seen = r.seen;
     match fault {
-        Fault::Reading(errno) => put_failure(b"IN can't be read", errno),
+        Fault::Reading(errno) => put_failure(rt, b"IN can't be read", errno),
         _ => {
             if changed {
-                put_error(b"IN changed while it was read");
+                put_error(rt, b"IN changed while it was read");
             } else {
-                put_seen(seen, asked);
+                put_seen(rt, seen, asked);
             }
         }
     }
 }
 
 // Bytes left over are told alone: such a file isn't what it was taken for.
-fn put_seen(s: Seen, asked: bool) {
+fn put_seen(rt: HostRuntime, s: Seen, asked: bool) {
     let answer = s.answer;
     let lowest = s.lowest;
     let highest = s.highest;
-    put_number(b"samples=", s.samples as u64);
+    put_number(rt, b"samples=", s.samples as u64);
     if is_left_over(answer) {
-        put_left_over(answer);
+        put_left_over(rt, answer);
         return;
     }
-    put_number(b"nan=", s.nans as u64);
-    put_number(b"infinite=", s.infinities as u64);
-    put_number(b"minus_zero=", s.minus_zeros as u64);
-    put_found(b"lowest=", lowest);
-    put_found(b"highest=", highest);
+    put_number(rt, b"nan=", s.nans as u64);
+    put_number(rt, b"infinite=", s.infinities as u64);
+    put_number(rt, b"minus_zero=", s.minus_zeros as u64);
+    put_found(rt, b"lowest=", lowest);
+    put_found(rt, b"highest=", highest);
     if asked {
-        put_number(b"refusable=", s.refusable as u64);
-        put_first(answer);
+        put_number(rt, b"refusable=", s.refusable as u64);
+        put_first(rt, answer);
     }
 }
 
@@ -64,17 +70,17 @@ fn is_left_over(answer: Rowed) -> bool {
     }
 }
 
-fn put_left_over(answer: Rowed) {
+fn put_left_over(rt: HostRuntime, answer: Rowed) {
     if let Rowed::Refused(f) = answer {
-        put_refusal(f, Found::Nothing);
+        put_refusal(rt, f, Found::Nothing);
     }
 }
 
 // The index of the first sample that a move would refuse, and the number of its refusal.
-fn put_first(answer: Rowed) {
+fn put_first(rt: HostRuntime, answer: Rowed) {
     if let Rowed::Refused(f) = answer {
-        put_number(b"first=", f.place as u64);
-        put_number(b"number=", f.number as u64);
-        put_why(f.number);
+        put_number(rt, b"first=", f.place as u64);
+        put_number(rt, b"number=", f.number as u64);
+        put_why(rt, f.number);
     }
 }

@@ -16,6 +16,8 @@ use input::{Block, read_block};
 use look::Found;
 use row::Rowed;
 use sample::sample_at;
+use std::io::{Read, Seek, Write};
+use std::rt::Clock;
 use value::{Kind, bytes_of};
 
 // Room for a block of samples, in either kind. Why so much: docs/DECISIONS.md, Blocks by pair.
@@ -74,18 +76,26 @@ fn start() -> Progress
 }
 
 // Moves the whole of input to output.
-pub fn run(input: i32, output: i32, from: Kind, to: Kind, w: Watch) -> State
+pub fn run<R: Read + Seek, W: Write>(
+    rt: &(impl Clock + Eprint),
+    input: &mut R,
+    output: &mut W,
+    from: Kind,
+    to: Kind,
+    w: Watch,
+) -> State
     ensures { Runs from to result }
 {
     let mut src = large_buffer();
     let mut dst = large_buffer();
-    run_in(input, output, from, to, &mut src, &mut dst, w)
+    run_in(rt, input, output, from, to, &mut src, &mut dst, w)
 }
 
 // The same, in buffers for a block of input and one of output.
-fn run_in(
-    input: i32,
-    output: i32,
+fn run_in<R: Read + Seek, W: Write>(
+    rt: &(impl Clock + Eprint),
+    input: &mut R,
+    output: &mut W,
     from: Kind,
     to: Kind,
     src: &mut Buffer,
@@ -94,7 +104,7 @@ fn run_in(
 ) -> State
     ensures { Runs from to result }
 {
-    let mut watch = begun(w);
+    let mut watch = begun(rt, w);
     let mut r = State {
         progress: start(),
         sample: Found::Nothing,
@@ -104,15 +114,15 @@ fn run_in(
     while r.turns > 0 {
         r = step(input, output, from, to, src, dst, r);
         let progress = r.progress;
-        watch = tell(watch, input, progress.samples);
+        watch = tell(rt, watch, input, progress.samples);
     }
     r
 }
 
 // Reads a block and moves it on.
-fn step(
-    input: i32,
-    output: i32,
+fn step<R: Read, W: Write>(
+    input: &mut R,
+    output: &mut W,
     from: Kind,
     to: Kind,
     src: &mut Buffer,
@@ -130,7 +140,7 @@ fn step(
         return State {
             progress: before,
             sample,
-            fault: Fault::Reading(os::errno()),
+            fault: Fault::Reading(got.errno),
             turns: 0,
         };
     }
@@ -138,17 +148,19 @@ fn step(
 }
 
 // What was read, and no more, is the next block.
-fn move_on(
+fn move_on<W: Write>(
     got: Block,
-    output: i32,
+    output: &mut W,
     from: Kind,
     to: Kind,
     src: &[u8],
     dst: &mut [u8],
     r: State,
 ) -> State
-    requires { (0 < r.turns) × (got.bytes ≤ length src.now) × (got.bytes ≤ block_bytes from to)
-        × (got.full ≡ eqb got.bytes (block_bytes from to)) × (length dst.old ≡ buffer_bytes) }
+    requires some { 0 < r.turns }
+    requires read { (got.bytes ≤ length src.now) × (got.bytes ≤ block_bytes from to) }
+    requires full { got.full ≡ eqb got.bytes (block_bytes from to) }
+    requires room { length dst.old ≡ buffer_bytes }
     ensures fewer { result.turns < r.turns }
     ensures step { MovedOn from to r (take got.bytes src.now) dst.old dst.new result }
 {
@@ -246,25 +258,25 @@ fn output_bytes(from: Kind, to: Kind, bytes: usize) -> usize
 }
 
 // Writes what a block came to; after a refusal nothing more is written.
-fn write_block(
-    output: i32,
+fn write_block<W: Write>(
+    output: &mut W,
     progress: Progress,
     from: Kind,
     to: Kind,
     dst: &[u8],
     bytes: usize,
 ) -> Fault
-    requires { (bytes / bytes_of from * bytes_of to ≤ buffer_bytes) × (length dst.now ≡ buffer_bytes) }
+    requires fits { bytes / bytes_of from * bytes_of to ≤ buffer_bytes }
+    requires room { length dst.now ≡ buffer_bytes }
     ensures { WritingOnly progress.answer result }
 {
     let answer = progress.answer;
     match answer {
         Rowed::Done => {
             let n = output_bytes(from, to, bytes);
-            if io::write_all(output, &dst[..n]) {
-                Fault::Nothing
-            } else {
-                Fault::Writing(os::errno())
+            match output.write_all(&dst[..n]) {
+                Ok(()) => Fault::Nothing,
+                Err(e) => Fault::Writing(e.raw_os_error().unwrap_or(0)),
             }
         }
         Rowed::Refused(_) => Fault::Nothing,

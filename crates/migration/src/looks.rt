@@ -11,6 +11,8 @@ use crate::watches::{Watch, begun, tell};
 use input::{Block, read_block};
 use look::{Found, Seen, look_block};
 use row::Rowed;
+use std::io::{Read, Seek};
+use std::rt::Clock;
 use value::Kind;
 
 // Where a look stands; `turns` is how many blocks may still be read, 0 once the input has ended.
@@ -38,18 +40,31 @@ fn nothing_seen() -> Seen
 }
 
 // Looks at the whole of input.
-pub fn look_through(input: i32, from: Kind, to: Kind, w: Watch) -> Look
+pub fn look_through<R: Read + Seek>(
+    rt: &(impl Clock + Eprint),
+    input: &mut R,
+    from: Kind,
+    to: Kind,
+    w: Watch,
+) -> Look
     ensures { Looks from to result }
 {
     let mut src = large_buffer();
-    look_in(input, from, to, &mut src, w)
+    look_in(rt, input, from, to, &mut src, w)
 }
 
 // The same, in a buffer for a block.
-fn look_in(input: i32, from: Kind, to: Kind, src: &mut Buffer, w: Watch) -> Look
+fn look_in<R: Read + Seek>(
+    rt: &(impl Clock + Eprint),
+    input: &mut R,
+    from: Kind,
+    to: Kind,
+    src: &mut Buffer,
+    w: Watch,
+) -> Look
     ensures { Looks from to result }
 {
-    let mut watch = begun(w);
+    let mut watch = begun(rt, w);
     let mut r = Look {
         seen: nothing_seen(),
         fault: Fault::Nothing,
@@ -58,13 +73,13 @@ fn look_in(input: i32, from: Kind, to: Kind, src: &mut Buffer, w: Watch) -> Look
     while r.turns > 0 {
         r = look_on(input, from, to, src, r);
         let seen = r.seen;
-        watch = tell(watch, input, seen.samples);
+        watch = tell(rt, watch, input, seen.samples);
     }
     r
 }
 
 // Reads a block and looks at it.
-fn look_on(input: i32, from: Kind, to: Kind, src: &mut Buffer, r: Look) -> Look
+fn look_on<R: Read>(input: &mut R, from: Kind, to: Kind, src: &mut Buffer, r: Look) -> Look
     requires { 0 < r.turns }
     ensures fewer { result.turns < r.turns }
     ensures step { Looked from to r src.new result }
@@ -74,7 +89,7 @@ fn look_on(input: i32, from: Kind, to: Kind, src: &mut Buffer, r: Look) -> Look
     if got.failed {
         return Look {
             seen: before,
-            fault: Fault::Reading(os::errno()),
+            fault: Fault::Reading(got.errno),
             turns: 0,
         };
     }
@@ -83,7 +98,9 @@ fn look_on(input: i32, from: Kind, to: Kind, src: &mut Buffer, r: Look) -> Look
 
 // What was read, and no more, is the next block.
 fn look_at(got: Block, from: Kind, to: Kind, src: &[u8], r: Look) -> Look
-    requires { (0 < r.turns) × (got.bytes ≤ length src.now) × (got.full ≡ eqb got.bytes (block_bytes from from)) }
+    requires some { 0 < r.turns }
+    requires read { got.bytes ≤ length src.now }
+    requires full { got.full ≡ eqb got.bytes (block_bytes from from) }
     ensures fewer { result.turns < r.turns }
     ensures step { LookedOn from to r (take got.bytes src.now) result }
 {

@@ -1,5 +1,6 @@
 // What is told on standard error while a file is read: nothing, or a line in every second.
-use value::{Value, bits_of};
+use std::io::Seek;
+use std::rt::Clock;
 
 // Whether lines are wanted, the bytes of the file, 0 where they aren't known, and the second of the last line.
 #[derive(Clone, Copy)]
@@ -9,30 +10,38 @@ pub struct Watch {
     pub second: i64,
 }
 
-fn second_now() -> i64 {
-    let mut t = 0;
-    libc::time(&mut t)
+// Of a clock that can't be read, 0: then no line is told.
+fn second_now(rt: &impl Clock) -> i64 {
+    match rt.since_1970() {
+        Ok(time) => time.as_secs().cast_signed(),
+        Err(_) => 0,
+    }
 }
 
 // The same, from now on.
-pub(crate) fn begun(w: Watch) -> Watch {
+pub(crate) fn begun(rt: &impl Clock, w: Watch) -> Watch {
     Watch {
         wanted: w.wanted,
         bytes: w.bytes,
-        second: second_now(),
+        second: second_now(rt),
     }
 }
 
 // After a block: a line, if the clock shows another second than at the line before.
-pub(crate) fn tell(w: Watch, input: i32, samples: usize) -> Watch {
+pub(crate) fn tell<S: Seek>(
+    rt: &(impl Clock + Eprint),
+    w: Watch,
+    input: &mut S,
+    samples: usize,
+) -> Watch {
     if !w.wanted {
         return w;
     }
-    let second = second_now();
+    let second = second_now(rt);
     if second == w.second {
         return w;
     }
-    put_samples(samples as u64, place_in(input), w.bytes);
+    put_samples(rt, samples as u64, place_in(input), w.bytes);
     Watch {
         wanted: true,
         bytes: w.bytes,
@@ -40,25 +49,19 @@ pub(crate) fn tell(w: Watch, input: i32, samples: usize) -> Watch {
     }
 }
 
-// How far a file is read, 0 where the system doesn't say. Of a number that isn't negative, the bits are the number.
-fn place_in(input: i32) -> u64 {
-    let place = libc::lseek(input, 0, libc::SEEK_CUR);
-    if place < 0 {
-        0
-    } else {
-        bits_of(Value::I64(place))
-    }
+// How far a file is read, 0 where the system doesn't say.
+fn place_in<S: Seek>(input: &mut S) -> u64 {
+    input.stream_position().unwrap_or(0)
 }
 
-fn put_samples(samples: u64, place: u64, bytes: u64) {
-    io::write_all(libc::STDERR_FILENO, b"samples so far: ");
-    io::print_decimal(libc::STDERR_FILENO, samples);
-    if bytes > 0 {
-        io::write_all(libc::STDERR_FILENO, b" (");
-        io::print_decimal(libc::STDERR_FILENO, percent(place, bytes));
-        io::write_all(libc::STDERR_FILENO, b" %)");
-    }
-    io::write_all(libc::STDERR_FILENO, b"\n");
+// A line that can't be written is lost, and nothing else.
+fn put_samples(rt: &impl Eprint, samples: u64, place: u64, bytes: u64) {
+    let _ = if bytes > 0 {
+        let hundredths = percent(place, bytes);
+        eprintln!(rt; "samples so far: {samples} ({hundredths} %)")
+    } else {
+        eprintln!(rt; "samples so far: {samples}")
+    };
 }
 
 // How many hundredths of the whole a part is; of one that has outgrown it, 100.
