@@ -32,7 +32,7 @@ ReadFails r next = (next.sheet ≡ r.sheet) × (next.failed ≡ true) × (next.t
 
 -- nothing told yet
 abbrev pub beginning : Telling
-beginning = record { sheet = blank; failed = false; turns = all_turns }
+beginning = record { sheet = blank; failed = false; errno = 0; turns = all_turns }
 
 -- some blocks lead from the beginning to here
 abbrev pub Ran : List (List ℕ) → Telling → Type 0

@@ -5,17 +5,20 @@ ghost use Rattle.sheet.specs.Runs.{buffer_bytes, block_bytes, turns_left, TellsB
 ghost use Rattle.sheet.specs.Inner.{Stepped};
 
 use input::{Block, read_block};
+use std::io::Read;
 use strip::{Extreme, MOST, Sheet, tally_block};
 
 const BUFFER_BYTES: usize = 131072;
 
 type Buffer = [u8; BUFFER_BYTES];
 
-// Where a run stands; `failed` is whether a read failed, and `turns` how many blocks may still be read, 0 once the input has ended.
+// Where a run stands; `failed` is whether a read failed, `errno` then the system's number, and `turns` how many blocks may still be read, 0 once
+// the input has ended.
 #[derive(Clone, Copy)]
 pub(crate) struct Telling {
     pub sheet: Sheet,
     pub failed: bool,
+    pub errno: i32,
     pub turns: u64,
 }
 
@@ -43,7 +46,7 @@ fn large_buffer() -> Buffer
 }
 
 // Tells of the whole of input.
-pub(crate) fn run(input: i32) -> Telling
+pub(crate) fn run<R: Read>(input: &mut R) -> Telling
     ensures { Runs result }
 {
     let mut src = large_buffer();
@@ -51,12 +54,13 @@ pub(crate) fn run(input: i32) -> Telling
 }
 
 // The same, in a buffer for a block.
-fn run_in(input: i32, src: &mut Buffer) -> Telling
+fn run_in<R: Read>(input: &mut R, src: &mut Buffer) -> Telling
     ensures { Runs result }
 {
     let mut r = Telling {
         sheet: blank_sheet(),
         failed: false,
+        errno: 0,
         turns: u64::MAX,
     };
     while r.turns > 0 {
@@ -93,7 +97,7 @@ fn turns_left(turns: u64, full: bool, samples: u64) -> u64
 }
 
 // Reads a block and tells of it.
-fn step(input: i32, src: &mut Buffer, r: Telling) -> Telling
+fn step<R: Read>(input: &mut R, src: &mut Buffer, r: Telling) -> Telling
     requires { 0 < r.turns }
     ensures fewer { result.turns < r.turns }
     ensures step { Stepped r src.new result }
@@ -104,6 +108,7 @@ fn step(input: i32, src: &mut Buffer, r: Telling) -> Telling
         return Telling {
             sheet: before,
             failed: true,
+            errno: got.errno,
             turns: 0,
         };
     }
@@ -124,6 +129,7 @@ fn tell(got: Block, src: &[u8], r: Telling) -> Telling
     Telling {
         sheet,
         failed: false,
+        errno: 0,
         turns,
     }
 }

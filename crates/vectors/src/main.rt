@@ -1,6 +1,8 @@
 // Replays case lines: reads lines on standard input and writes one answer a line on standard output. Its own stdin and stdout, beside src/,
 // are the fixed list of the oracle and the oracle's answers (oracle/README.md). Input is read in blocks and answers wait in a buffer, so
 // that a run makes few calls of the system.
+#![tactic(auto)]
+
 mod answers;
 mod bytes;
 mod counts;
@@ -17,9 +19,13 @@ mod samples;
 ghost use Rattle.std.specs.Prelude.{◌+◌, ◌≤◌, ◌<◌, length};
 
 use lines::put_reply;
-use output::{Buffer, flush, put_byte};
+use output::{Buffer, empty, flush, put_byte};
 use rows::{RowF32, RowU8, RowU16};
+use std::io::{Read, Stdin};
 use text::place_of;
+
+// A block of input.
+type Input = [u8; 65536];
 
 // Where a run stands: `held` bytes of a line that has begun are at the front of the input buffer, which always has room for one more, and
 // `used` bytes wait in the output buffer. `turns` is how many blocks may still be read, 0 once the input has ended.
@@ -37,17 +43,25 @@ struct Done {
     used: usize,
 }
 
-fn main() {
-    let mut input = io::large_buffer();
-    let mut output = io::large_buffer();
+fn main(rt: HostRuntime) {
+    let mut input: Input = [0; 65536];
+    let mut output = empty(rt.stdout());
     let mut u8s: RowU8 = [0; 8192];
     let mut u16s: RowU16 = [0; 8192];
     let mut f32s: RowF32 = [0.0; 8192];
-    run(&mut input, &mut output, &mut u8s, &mut u16s, &mut f32s);
+    run(
+        rt.stdin(),
+        &mut input,
+        &mut output,
+        &mut u8s,
+        &mut u16s,
+        &mut f32s,
+    );
 }
 
 fn run(
-    input: &mut Buffer,
+    from: Stdin,
+    input: &mut Input,
     output: &mut Buffer,
     u8s: &mut RowU8,
     u16s: &mut RowU16,
@@ -59,29 +73,30 @@ fn run(
         turns: u64::MAX,
     };
     while s.turns > 0 {
-        s = step(input, output, u8s, u16s, f32s, s);
+        s = step(from, input, output, u8s, u16s, f32s, s);
     }
     flush(output, s.used);
 }
 
 // Reads a block and answers its lines.
 fn step(
-    input: &mut Buffer,
+    from: Stdin,
+    input: &mut Input,
     output: &mut Buffer,
     u8s: &mut RowU8,
     u16s: &mut RowU16,
     f32s: &mut RowF32,
     s: State,
 ) -> State
-    requires turns_nonzero { 0 < s.turns }
+    requires some { 0 < s.turns }
     requires held_bound { s.held < 65536 }
     requires used_bound { s.used ≤ 65536 }
-    ensures turns_lt_turns { result.turns < s.turns }
-    ensures held_bound_2 { result.held < 65536 }
-    ensures used_bound_2 { result.used ≤ 65536 }
+    ensures fewer { result.turns < s.turns }
+    ensures held_room { result.held < 65536 }
+    ensures used_room { result.used ≤ 65536 }
 {
     let held = s.held;
-    let got = more(input, held);
+    let got = more(from, input, held);
     if got == 0 {
         return State {
             held,
@@ -100,28 +115,27 @@ fn step(
 }
 
 // How many bytes come into input after those that are held, 0 at the end.
-fn more(input: &mut Buffer, held: usize) -> usize
+fn more(from: Stdin, input: &mut Input, held: usize) -> usize
     requires { held < 65536 }
     ensures { held + result ≤ 65536 }
 {
-    let got = read_once(input, held);
+    let got = read_once(from, input, held);
     if got == 0 {
         return end_line(input, held);
     }
     got
 }
 
-fn read_once(input: &mut [u8], held: usize) -> usize
+// A read that fails is the end too.
+fn read_once(mut from: Stdin, input: &mut [u8], held: usize) -> usize
     requires { held ≤ length input.old }
     ensures { held + result ≤ length input.new }
 {
-    let rest = &mut input[held..];
-    let got = libc::read(libc::STDIN_FILENO, rest);
-    io::count(got, rest)
+    from.read(&mut input[held..]).unwrap_or(0)
 }
 
 // A last line that lacks its newline gets one; after a newline there is no further line.
-fn end_line(input: &mut Buffer, held: usize) -> usize
+fn end_line(input: &mut Input, held: usize) -> usize
     requires { held < 65536 }
     ensures { held + result ≤ 65536 }
 {
@@ -145,7 +159,7 @@ fn block(
     requires full_in_bounds { full ≤ length input.now }
     requires used_bound { used ≤ 65536 }
     ensures next_le_full { result.next ≤ full }
-    ensures used_bound_2 { result.used ≤ 65536 }
+    ensures used_room { result.used ≤ 65536 }
 {
     let mut next = 0;
     let mut used = used;
@@ -179,8 +193,9 @@ fn put_line(
 
 // Moves the bytes from next to full to the front: how many are held there. A line that fills the whole of input is cut to a space, which
 // begins no case line: it will be malformed, and its bytes are dropped as they come.
-fn keep(input: &mut Buffer, next: usize, full: usize) -> usize
-    requires { (next ≤ full) × (full ≤ 65536) }
+fn keep(input: &mut Input, next: usize, full: usize) -> usize
+    requires order { next ≤ full }
+    requires bound { full ≤ 65536 }
     ensures { result < 65536 }
 {
     let n = full - next;

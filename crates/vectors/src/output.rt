@@ -1,8 +1,21 @@
 // Text, collected in a buffer that is written out when it is full.
-ghost use Rattle.std.specs.Prelude.{◌≤◌, length};
+ghost use Rattle.std.specs.Prelude.{◌≤◌};
 
-// As `io::large_buffer` makes it.
-pub(crate) type Buffer = [u8; 65536];
+use std::io::Stdout;
+
+// The bytes that wait, and where they are written to.
+#[derive(Drop)]
+pub(crate) struct Buffer {
+    pub bytes: [u8; 65536],
+    pub to: Stdout,
+}
+
+pub(crate) fn empty(to: Stdout) -> Buffer {
+    Buffer {
+        bytes: [0; 65536],
+        to,
+    }
+}
 
 pub(crate) fn put_decimal(output: &mut Buffer, used: usize, n: u64) -> usize
     requires { used ≤ 65536 }
@@ -43,10 +56,10 @@ pub(crate) fn put_byte(output: &mut Buffer, used: usize, b: u8) -> usize
 {
     if used == 65536 {
         flush(output, used);
-        output[0] = b;
+        output.bytes[0] = b;
         return 1;
     }
-    output[used] = b;
+    output.bytes[used] = b;
     used + 1
 }
 
@@ -61,9 +74,9 @@ pub(crate) fn put_comma(output: &mut Buffer, used: usize, at: usize) -> usize
     put_byte(output, used, b',')
 }
 
-// Writes out the first `used` bytes of output.
-pub(crate) fn flush(output: &[u8], used: usize)
-    requires { used ≤ length output.now }
+// Writes out the first `used` bytes of output. Answers that can't be written are lost.
+pub(crate) fn flush(output: &Buffer, used: usize)
+    requires { used ≤ 65536 }
 {
-    io::write_all(libc::STDOUT_FILENO, &output[..used]);
+    let _ = output.to.write_all(&output.bytes[..used]);
 }

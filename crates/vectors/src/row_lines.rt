@@ -135,9 +135,9 @@ fn converted(
     u16s: &mut [u16],
     f32s: &mut [f32],
 ) -> Answer
-    requires count_in_bounds { (count ≤ length u8s.old) × (room ≤ length u8s.old) }
-    requires count_in_bounds_2 { (count ≤ length u16s.old) × (room ≤ length u16s.old) }
-    requires count_in_bounds_3 { (count ≤ length f32s.old) × (room ≤ length f32s.old) }
+    requires u8s_room { (count ≤ length u8s.old) × (room ≤ length u8s.old) }
+    requires u16s_room { (count ≤ length u16s.old) × (room ≤ length u16s.old) }
+    requires f32s_room { (count ≤ length f32s.old) × (room ≤ length f32s.old) }
 {
     match from {
         Kind::U8 => match to {
