@@ -34,3 +34,14 @@ values_first s p q = rw (q, p)
 pub beside_first : (s : List ℕ) {h : List ℕ} {v : OneValue} → h ≡ before_of 32 s → v ≡ value_in h → value_and_kind_in s ≡ beside v (kind_named (after_of 32 s))
 unfolding value_and_kind_in
 beside_first s p q = rw (q, p)
+
+-- both sides of the first space read
+pub values_both : (s : List ℕ) {h t : List ℕ} {a b : OneValue} → h ≡ before_of 32 s → a ≡ value_in h → t ≡ after_of 32 s → b ≡ value_in t
+    → values_in s ≡ both a b
+unfolding values_in
+values_both s p q r e = rw (e, r, q, p)
+
+pub beside_both : (s : List ℕ) {h t : List ℕ} {v : OneValue} {k : KindFound} → h ≡ before_of 32 s → v ≡ value_in h → t ≡ after_of 32 s
+    → k ≡ kind_named t → value_and_kind_in s ≡ beside v k
+unfolding value_and_kind_in
+beside_both s p q r e = rw (e, r, q, p)
