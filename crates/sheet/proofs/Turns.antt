@@ -1,5 +1,6 @@
 -- The turns of a run: a block that was read is the front of the buffer, and each turn leads on.
 use Prim.Native.Nat.{ℕ, ◌≤◌, ◌<◌}
+use Rattle.std.specs.Prelude.{pos}
 use mathlib.Core.Bool.{Bool, false}
 use mathlib.Core.Logic.{inl, inr}
 use mathlib.Core.List.{List, [], ◌∷◌, ◌++◌}
@@ -42,7 +43,7 @@ abbrev pub Reaches : Telling → Type 0
 Reaches r = (bs : List (List ℕ)) × Ran bs r
 
 -- none led to the beginning
-pub at_beginning : (s : Sheet) → s ≡ blank → Reaches (record { sheet = s; failed = false; turns = all_turns })
+pub at_beginning : (s : Sheet) → s ≡ blank → Reaches (record { sheet = s; failed = false; errno = pos 0; turns = all_turns })
 at_beginning s q = rw q ([], begins)
 
 -- a turn leads on

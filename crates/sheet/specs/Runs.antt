@@ -1,5 +1,5 @@
 -- The turns of a run, by what stands in the buffer after the read, and whole runs. RULES.md: Strip sheet.
-use Rattle.std.specs.Prelude.{ℕ, ◌-◌, ◌*◌, ◌≤◌, min, Bool, true, false, cond, ◌&&◌, ◌≡◌, List, eqb, ltb, length}
+use Rattle.std.specs.Prelude.{ℕ, pos, ◌-◌, ◌*◌, ◌≤◌, min, Bool, true, false, cond, ◌&&◌, ◌≡◌, List, eqb, ltb, length}
 use Rattle.input.specs.Chain.{Chain, all_turns}
 use Rattle.sample.specs.Samples.{joined}
 use Rattle.strip.specs.Sheet.{most, sheet_after}
@@ -32,7 +32,7 @@ ReadFails r next = (next.sheet ≡ r.sheet) × (next.failed ≡ true) × (next.t
 
 -- nothing told yet
 abbrev pub beginning : Telling
-beginning = record { sheet = blank; failed = false; errno = 0; turns = all_turns }
+beginning = record { sheet = blank; failed = false; errno = pos 0; turns = all_turns }
 
 -- some blocks lead from the beginning to here
 abbrev pub Ran : List (List ℕ) → Telling → Type 0

@@ -5,6 +5,8 @@
 mod lines;
 mod runs;
 
+ghost use Rattle.std.specs.Prelude.{◌≤◌, length};
+
 use lines::put_sheet;
 use runs::run;
 use std::io::{Error, Write};
@@ -13,11 +15,7 @@ fn main(rt: HostRuntime) {
     let mut input = rt.stdin();
     let r = run(&mut input);
     if r.failed {
-        put_cause(
-            rt,
-            "standard input",
-            Error::from_raw_os_error(r.errno),
-        );
+        put_cause(rt, "standard input", Error::from_raw_os_error(r.errno));
         put(rt, b"error=standard input can't be read\n");
         return;
     }
@@ -45,7 +43,9 @@ fn put_cause(rt: HostRuntime, what: &str, e: Error) {
 }
 
 // How many bytes come before the number of an error, or before the first zero.
-fn words_in(text: &[u8]) -> usize {
+fn words_in(text: &[u8]) -> usize
+    ensures { result ≤ length text.now }
+{
     for i in 0..text.len() {
         let rest = &text[i..];
         if rest.starts_with(b" (os error ") | (text[i] == 0) {
