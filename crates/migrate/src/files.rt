@@ -1,16 +1,15 @@
 // Files: IN opened and held against itself, names that are taken, and the numbers of the system's errors.
-ghost use Rattle.std.specs.Prelude.{◌≡◌, length};
+ghost use Rattle.std.specs.Prelude.{◌≡◌, ◌≤◌, length};
 
 use crate::formats::put_if_container;
 use crate::lines::{put_error, put_failure};
 use migration::Watch;
 use std::env::FillError;
-use std::fs;
 use std::fs::{File, OpenOptions};
-use std::io;
 use std::io::{IsTerminal, Seek, SeekFrom};
 use std::os::fd::AsRawFd;
 use std::rt::Env;
+use std::{fs, io};
 
 // The system's numbers for a name that is too long, and for one that is no text: the library opens no other.
 pub(crate) const ENAMETOOLONG: i32 = 36;

@@ -29,7 +29,10 @@ pub(crate) struct Options {
 }
 
 fn main(rt: HostRuntime) {
-    let o = with_next(rt, with_next(rt, with_next(rt, with_next(rt, no_options()))));
+    let o = with_next(
+        rt,
+        with_next(rt, with_next(rt, with_next(rt, no_options()))),
+    );
     let words = words_behind(rt, o.first);
     let asked = says(rt, o.first, b"report");
     if asked & (words == 3) {

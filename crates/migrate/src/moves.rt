@@ -195,11 +195,7 @@ fn named(rt: HostRuntime, part: &str, out: &str, o: Options) -> bool {
     }
     if let Err(e) = fs::rename(&rt, part, out) {
         removed(rt, part);
-        put_failure(
-            rt,
-            b"the output can't be given the name OUT",
-            number_of(e),
-        );
+        put_failure(rt, b"the output can't be given the name OUT", number_of(e));
         return false;
     }
     if o.unsynced {

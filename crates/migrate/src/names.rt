@@ -47,11 +47,10 @@ fn put_letters(rt: HostRuntime, path: &mut [u8]) -> Result<(), i32>
     if let Err(e) = rt.fill_bytes(&mut chance) {
         return Err(number_of(e));
     }
-    let mut at = path.len();
-    for b in chance {
-        if at > 0 {
-            at -= 1;
-            path[at] = LETTERS[(b % 62) as usize];
+    let n = path.len();
+    for i in 0..6 {
+        if i < n {
+            path[n - 1 - i] = LETTERS[(chance[i] % 62) as usize];
         }
     }
     Ok(())

@@ -1,0 +1,26 @@
+-- Each turn puts one byte, and what waits stays within the buffer.
+use Prim.Native.Nat.{◌-◌, ◌≤◌}
+use borrow.Author.Rules.{rules}
+use lib.ListN.{length}
+use Rattle.vectors.proofs.output.put.Statement.{statement}
+use Rattle.vectors.proofs.output.put.Tie as tie
+
+abbrev invariant_loop : tie.invariant-loop
+invariant_loop output₀ used s used₀ i₀ output used' i = used' ≤ 65536
+
+abbrev decreases_loop : tie.decreases-loop
+decreases_loop output₀ used s used₀ i₀ output used' i = length s - i
+
+pub put_spec : {M : Type 1} → statement M
+put_spec =
+    tie.close
+    (tie.spec
+    invariant_loop
+    decreases_loop
+    (λ c. search rules)
+    (λ c. search rules)
+    (λ c κs. search rules)
+    (λ c. search rules)
+    (λ c. search rules)
+    (λ c. search rules)
+    (λ c. search rules))
