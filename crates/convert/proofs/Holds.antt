@@ -1,14 +1,15 @@
 -- A magnitude S in a float format of p fraction bits, smallest step 2^c and highest exponent `last`: k digits are dropped beside the c below the step.
 -- The format holds S exactly when those digits are 0; above the largest number it is 4, else 5.
 use mathlib.Core.Path.{◌≡◌, refl, sym, ◌∙◌, ap, subst}
-use mathlib.Core.Bool.{Bool, true, false}
+use mathlib.Core.Bool.{Bool, true, false, not}
 use mathlib.Core.Logic.{◌⊎◌, inl, inr}
 use Prim.Native.Nat.{ℕ, zero, suc, ◌+◌, ◌-◌, ◌*◌, ◌/◌, ◌%◌, ◌^◌, ◌≤◌, ◌<◌}
 use native.Mathlib.Nat.{mul-le-mul, mul_assoc, mul_comm, zero-mul, zero-div, lt_of_lt_of_le, le_of_lt, le_of_eq, le_trans}
 use native.Mathlib.Nat.{le-div_iff_mul-le, div-lt_iff_lt-mul, div-eq_of_lt, div-add-mod', mod-lt, mod-eq_of_lt, mul-div_cancel, suc-mul}
 use native.Mathlib.Nat.{add-zero, pow-suc}
 use native.Mathlib.Omega.{arith}
-use borrow.Author.Tests.{eq-eqb, eqb-true, lt-ltb, le-ltb}
+use borrow.Author.Tests.{eq-eqb, eqb-true, eqb-false, lt-ltb, le-ltb, not-true}
+use lib.Dec.{eqb}
 use lib.Arith.{mod-mul}
 use lib.Ieee.{size}
 use lib.Ieee.Digits.{size-lt, size_reaches}
@@ -164,6 +165,17 @@ held_zero p c last s m g h =
 
 pub dropped_is : (p c m g z k : ℕ) → 0 < m → z ≡ size m → k ≡ z + g - (p + 1 + c) → k ≡ size (m * 2 ^ g) - suc p - c
 dropped_is p c m g z k h e q = let w : size (m * 2 ^ g) ≡ size m + g = size_scale m g h in omega arith
+
+-- the two refusals that the exponent alone decides, of what the code has: z digits in m, k dropped of the product's; `held` names both
+pub far_refused : (p c last : ℕ) (s : Bool) (m g z k : ℕ) → last < k → z ≡ size m → (m ≡ 0 → ⊥) → k ≡ z + g - (p + 1 + c)
+    → refuses 4 0 ≡ float_at p (2 ^ c) last s (m * 2 ^ g)
+far_refused p c last s m g z k h e n q = held_far p c (m * 2 ^ g) k (dropped_is p c m g z k (omega arith) e q) last s h
+
+pub low_refused : (p c last : ℕ) (s : Bool) (m g z k : ℕ) (rest : Bool) → rest ≡ not (eqb (m * 2 ^ g % 2 ^ (k + c)) 0) → rest ≡ true
+    → k ≤ last → (k ≡ last → ⊥) → z ≡ size m → (m ≡ 0 → ⊥) → k ≡ z + g - (p + 1 + c) → refuses 5 0 ≡ float_at p (2 ^ c) last s (m * 2 ^ g)
+low_refused p c last s m g z k rest r t h d e n q =
+    let left : m * 2 ^ g % 2 ^ (k + c) ≡ 0 → ⊥ = eqb-false _ _ (not-true _ (sym r ∙ t)) in
+    held_none p c (m * 2 ^ g) k (dropped_is p c m g z k (omega arith) e q) last s h left (inl (omega (arith, d)))
 
 pub all_ones : (p : ℕ) → p ≤ 52 → 2 * 2 ^ p % 2 ^ 64 ≡ 2 ^ suc p
 all_ones p h = mod-eq_of_lt

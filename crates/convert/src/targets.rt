@@ -46,6 +46,7 @@ fn whole_in(x: Parts, low: u64, high: u64) -> Fitted
 }
 
 // A finite number in a float format: its leading p + 1 digits are kept, and those below have to be 0. Field k + 1 is the exponent's.
+#[tactic(auto, using(crate::proofs::Holds::far_refused, crate::proofs::Holds::low_refused))]
 fn held(s: bool, m: u64, g: u16, p: u16, c: u16, last: u16) -> Fitted
     requires { (p ≤ 52) × (last ≤ 2045) }
     ensures { fitted_outcome result ≡ float_at p (2 ^ c) last s (m * 2 ^ g) }

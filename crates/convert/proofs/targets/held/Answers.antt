@@ -31,11 +31,6 @@ few c = let a = c.args in kept_small a.p a.c ((c.args.m * 2 ^ c.args.g)) c.if-di
 pub returns-then-m-eq0 : goal.returns-then-m-eq0
 returns-then-m-eq0 c = let a = c.args in held_zero a.p a.c a.last a.s a.m a.g c.if-m-eq0.true
 
-pub returns-then-k-last : goal.returns-then-k-last
-returns-then-k-last c = let a =
-    c.args in
-    held_far a.p a.c ((c.args.m * 2 ^ c.args.g)) c.if-digits-kept.k (k_is ((goal.at.returns-then-k-last c).Joined-digits-kept)) a.last a.s c.if-k-last.true
-
 pub over-ratio-requires : goal.over-ratio-requires
 over-ratio-requires c =
     let f : (c.args.m * 2 ^ c.args.g) / 2 ^ (c.if-digits-kept.k + c.args.c) < 2 ^ 53 =
@@ -43,7 +38,7 @@ over-ratio-requires c =
     (positive ((goal.at.over-ratio-requires c).Joined-digits-kept), omega arith)
 
 near : (c : After-over-ratio) → c.if-digits-kept.k ≤ c.args.last
-near c = c.if-k-last.false
+near c = omega arith
 
 rest_left : (c : After-over-ratio) → c.over-ratio.result.rest ≡ true → (c.args.m * 2 ^ c.args.g) % 2 ^ (c.if-digits-kept.k + c.args.c) ≡ 0 → ⊥
 rest_left c t = eqb-false _ _ (not-true _ (sym c.over-ratio.ensures.1 ∙ t))
@@ -61,7 +56,7 @@ pub returns-then-ratio-p : goal.returns-then-ratio-p
 returns-then-ratio-p c =
     let j = (goal.at.returns-then-ratio-p c).Joined-digits-kept in
     let a = c.args in
-    held_over a.p a.c ((c.args.m * 2 ^ c.args.g)) c.if-digits-kept.k (k_is j) a.last a.s c.if-k-last-2.true
+    held_over a.p a.c ((c.args.m * 2 ^ c.args.g)) c.if-digits-kept.k (k_is j) a.last a.s (omega arith)
     (rest_left ((goal.at.returns-then-ratio-p c).After-over-ratio) c.if-ratio.true)
     (sym c.over-ratio.ensures.0 ∙ c.if-ratio-p.true ∙ ap (λ (x : ℕ). x - 1) (ones ((goal.at.returns-then-ratio-p c).After-over-ratio)))
 
@@ -73,14 +68,6 @@ returns-else-ratio-p c =
     λ e. c.if-ratio-p.false (c.over-ratio.ensures.0 ∙ e ∙ sym (ap (λ (x : ℕ). x - 1) (ones ((goal.at.returns-else-ratio-p c).After-over-ratio)))) in
     held_none a.p a.c ((c.args.m * 2 ^ c.args.g)) c.if-digits-kept.k (k_is j) a.last a.s (near ((goal.at.returns-else-ratio-p c).After-over-ratio))
     (rest_left ((goal.at.returns-else-ratio-p c).After-over-ratio) c.if-ratio.true) (inr (let f = few j in omega arith))
-
-pub returns-else-k-last-2 : goal.returns-else-k-last-2
-returns-else-k-last-2 c =
-    let j = (goal.at.returns-else-k-last-2 c).Joined-digits-kept in
-    let a = c.args in
-    held_none a.p a.c ((c.args.m * 2 ^ c.args.g)) c.if-digits-kept.k (k_is j) a.last a.s
-    (near ((goal.at.returns-else-k-last-2 c).After-over-ratio)) (rest_left ((goal.at.returns-else-k-last-2 c).After-over-ratio) c.if-ratio.true)
-    (inl (omega (arith, c.if-k-last-2.false, near ((goal.at.returns-else-k-last-2 c).After-over-ratio))))
 
 field : (c : After-over-ratio) → c.if-digits-kept.k * 2 ^ c.args.p ≤ 2047 * 2 ^ 52
 field c = field_small c.if-digits-kept.k c.args.p c.args.last (near c) (omega (arith, c.requires.1)) c.requires.0
