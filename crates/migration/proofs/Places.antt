@@ -91,7 +91,8 @@ module _ {B : Type 0} (conv : Value → Outcome B) (d : Value) (xs ys : List Val
 module _ (from to : Kind) where
   whole_answer : (p : List ℕ) → left_of from p ≡ 0 → answer_of from to p ≡ row_answer (bits_to to) 0 (samples_of from p)
   unfolding answer_of
-  whole_answer p none = ap (λ (t : Bool). refuse_if (not t) 9 (count_of from p) (row_answer (bits_to to) 0 (samples_of from p))) (eq-eqb (left_of from p) 0 none)
+  whole_answer p none =
+      ap (λ (t : Bool). refuse_if (not t) 9 (count_of from p) (row_answer (bits_to to) 0 (samples_of from p))) (eq-eqb (left_of from p) 0 none)
 
   left_answer : (p : List ℕ) → (left_of from p ≡ 0 → ⊥) → answer_of from to p ≡ refuses 9 (count_of from p)
   unfolding answer_of
