@@ -2,7 +2,7 @@
 ghost use Rattle.std.specs.Prelude.{◌≡◌, ◌≤◌, length, take};
 ghost use Rattle.text.specs.Words.{place_of, before_of, after_of, same_bytes, words_of, number_among, nth_of};
 
-// The place of the first b in s, or the length of s. The last clause follows from the one before it: `&s[..r]` asks for both.
+// The place of the first b in s, or the length of s. The last clause follows from the one before it.
 pub fn place_of(b: u8, s: &[u8]) -> usize
     ensures place { result ≡ place_of b s.now }
     ensures in_bounds { result ≤ length s.now }
