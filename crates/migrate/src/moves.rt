@@ -59,8 +59,8 @@ fn migrate_from(
 fn migrate_into(rt: HostRuntime, input: &mut File, from: Kind, to: Kind, out: &str, o: Options) {
     match OpenOptions::new().read(true).write(true).open(&rt, out) {
         Err(e) => put_failure(rt, b"OUT can't be opened", number_of(e)),
-        Ok(mut output) => if !is_standard(rt, &output) {
-            migrate_in(rt, input, &mut output, from, to, o);
+        Ok(output) => if !is_standard(rt, &output) {
+            migrate_in(rt, input, output, from, to, o);
         },
     }
 }
@@ -68,23 +68,27 @@ fn migrate_into(rt: HostRuntime, input: &mut File, from: Kind, to: Kind, out: &s
 fn migrate_in(
     rt: HostRuntime,
     input: &mut File,
-    output: &mut File,
+    mut output: File,
     from: Kind,
     to: Kind,
     o: Options,
 ) {
-    if is_filled(rt, output) {
+    if is_filled(rt, &mut output) {
         return;
     }
     let size = size_of(input);
     let watch = watched(rt, o.progress, size);
-    let r = run(&rt, input, output, from, to, watch);
+    let r = run(&rt, input, &mut output, from, to, watch);
     let changed = is_changed(input, size);
     if !is_done(r, changed) {
         let _ = output.set_len(0);
     }
+    closed(output);
     put_answer(rt, r, changed);
 }
+
+// Closes a file. What the system says to that is lost: the library doesn't tell it.
+fn closed(_file: File) {}
 
 // Whether a file that should be empty isn't, or isn't one that has a length; then a line says so.
 fn is_filled(rt: HostRuntime, file: &mut File) -> bool {

@@ -6,6 +6,7 @@ use crate::sentences::put_why;
 use look::{Found, Seen};
 use migration::{Fault, Look, look_through};
 use row::Rowed;
+use std::fs::File;
 use value::Kind;
 
 // The path of IN is an argument; `asked` is whether the lines on TO are wanted.
@@ -17,13 +18,19 @@ pub(crate) fn report(
     in_arg: usize,
     o: Options,
 ) {
-    if let Some(mut input) = open_in(rt, in_arg, o.raw) {
-        let size = size_of(&mut input);
-        let watch = watched(rt, o.progress, size);
-        let r = look_through(&rt, &mut input, from, to, watch);
-        let changed = is_changed(&mut input, size);
+    if let Some(input) = open_in(rt, in_arg, o.raw) {
+        let (r, changed) = looked(rt, input, from, to, o);
         put_look(rt, r, changed, asked);
     }
+}
+
+// What IN holds, and whether it changed while it was read. It is closed then.
+fn looked(rt: HostRuntime, mut input: File, from: Kind, to: Kind, o: Options) -> (Look, bool) {
+    let size = size_of(&mut input);
+    let watch = watched(rt, o.progress, size);
+    let r = look_through(&rt, &mut input, from, to, watch);
+    let changed = is_changed(&mut input, size);
+    (r, changed)
 }
 
 fn put_look(rt: HostRuntime, r: Look, changed: bool, asked: bool) {
