@@ -4,7 +4,7 @@ use mathlib.Core.Path.{◌≡◌, refl, sym, ◌∙◌, ap, subst}
 use mathlib.Core.Bool.{Bool, true, false, not}
 use mathlib.Core.Logic.{◌⊎◌, inl, inr}
 use Prim.Native.Nat.{ℕ, zero, suc, ◌+◌, ◌-◌, ◌*◌, ◌/◌, ◌%◌, ◌^◌, ◌≤◌, ◌<◌}
-use native.Mathlib.Nat.{mul-le-mul, mul_assoc, mul_comm, zero-mul, zero-div, lt_of_lt_of_le, le_of_lt, le_of_eq, le_trans}
+use native.Mathlib.Nat.{mul-le-mul, mul_assoc, mul_comm, mul-pos, zero-mul, zero-div, lt_of_lt_of_le, le_of_lt, le_of_eq, le_trans}
 use native.Mathlib.Nat.{le-div_iff_mul-le, div-lt_iff_lt-mul, div-eq_of_lt, div-add-mod', mod-lt, mod-eq_of_lt, mul-div_cancel, suc-mul}
 use native.Mathlib.Nat.{add-zero, pow-suc}
 use native.Mathlib.Omega.{arith}
@@ -180,6 +180,13 @@ low_refused p c last s m g z k rest r t h d e n q =
 pub all_ones : (p : ℕ) → p ≤ 52 → 2 * 2 ^ p % 2 ^ 64 ≡ 2 ^ suc p
 all_ones p h = mod-eq_of_lt
     (subst (λ (x : ℕ). x < 2 ^ 64) (pow-suc 2 p ∙ mul_comm (2 ^ p) 2) (pow-lt {i = suc p} {j = 64} (omega arith))) ∙ mul_comm 2 (2 ^ p) ∙ sym (pow-suc 2 p)
+
+-- one power of 2 or two of them don't wrap
+pub ones_left : (b p : ℕ) → 0 < b → b ≤ 2 → p ≤ 52 → 0 < b * 2 ^ p % 2 ^ 64
+ones_left b p h i j =
+    let m : b * 2 ^ p ≤ 2 * 2 ^ 52 = mul-le-mul {n₁ = b} {m₁ = 2 ^ p} {n₂ = 2} {m₂ = 2 ^ 52} i (pow_mono {i = p} {j = 52} j) in
+    let w : b * 2 ^ p % 2 ^ 64 ≡ b * 2 ^ p = mod-eq_of_lt (omega arith) in
+    rw w (mul-pos h (pow_pos p))
 
 pub field_small : (k p last : ℕ) → k ≤ last → last ≤ 2047 → p ≤ 52 → k * 2 ^ p ≤ 2047 * 2 ^ 52
 field_small k p last h j i = mul-le-mul {n₁ = k} {m₁ = 2 ^ p} {n₂ = 2047} {m₂ = 2 ^ 52} (omega arith) (pow_mono {i = p} {j = 52} i)

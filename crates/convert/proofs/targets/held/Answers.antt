@@ -1,15 +1,14 @@
 -- The digits that are dropped are counted first; then the rest of the division and, at the highest exponent, the leading digits decide.
 use mathlib.Core.Path.{◌≡◌, sym, ◌∙◌, ap}
 use mathlib.Core.Bool.{true, false}
-use mathlib.Core.Logic.{inl, inr}
+use mathlib.Core.Logic.{inr}
 use Prim.Native.Nat.{ℕ, suc, ◌+◌, ◌-◌, ◌*◌, ◌/◌, ◌%◌, ◌^◌, ◌≤◌, ◌<◌}
 use native.Mathlib.Nat.{mod-eq_of_lt}
 use native.Mathlib.Omega.{arith}
 use borrow.Author.Tests.{not-true, not-false, eqb-true, eqb-false}
 use lib.Ieee.{size}
-use lib.Pow.{pow_pos}
 use Rattle.value.specs.Outcome.{gives}
-use Rattle.convert.proofs.Holds.{kept_small, held_far, held_is, held_none, held_over, held_zero, dropped_is, all_ones, field_small, digits_few}
+use Rattle.convert.proofs.Holds.{kept_small, held_is, held_none, held_over, held_zero, dropped_is, all_ones, ones_left, field_small, digits_few}
 use Rattle.convert.proofs.targets.held.Goals as goal
 use Rattle.convert.proofs.targets.held.Goals.{After-over-ratio, Joined-digits-kept, then-digits-kept, else-digits-kept}
 
@@ -50,7 +49,7 @@ ones : (c : After-over-ratio) → 2 * 2 ^ c.args.p % 2 ^ 64 ≡ 2 ^ suc c.args.p
 ones c = all_ones c.args.p c.requires.0
 
 pub overflow_sub-p : goal.overflow_sub-p
-overflow_sub-p c = rw (ones ((goal.at.overflow_sub-p c).After-over-ratio)) (pow_pos (suc c.args.p))
+overflow_sub-p c = ones_left _ c.args.p (omega arith) (omega arith) c.requires.0
 
 pub returns-then-ratio-p : goal.returns-then-ratio-p
 returns-then-ratio-p c =
