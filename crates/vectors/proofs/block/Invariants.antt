@@ -1,6 +1,5 @@
 -- Each turn passes a line with its newline, so `next` stays within the bytes that are there and what is left of them falls.
 use Prim.Native.Nat.{◌-◌, ◌≤◌}
-use borrow.Author.Rules.{rules}
 use Rattle.vectors.proofs.block.Given as goal
 
 abbrev pub invariant-loop-next : goal.invariant-loop-next

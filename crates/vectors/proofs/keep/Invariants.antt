@@ -1,6 +1,5 @@
 -- The loop writes below what it reads, and what it reads is below full.
 use Prim.Native.Nat.{◌-◌, ◌≤◌}
-use borrow.Author.Rules.{rules}
 use Rattle.vectors.proofs.keep.Given as goal
 
 abbrev pub invariant-loop-i : goal.invariant-loop-i

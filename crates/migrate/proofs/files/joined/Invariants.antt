@@ -1,5 +1,5 @@
 -- The loop keeps the length.
-use Rattle.std.proofs.Common.{◌≡◌, ◌-◌, ◌≤◌, length, rules}
+use Rattle.std.proofs.Common.{◌≡◌, ◌-◌, ◌≤◌, length}
 use Rattle.migrate.proofs.files.joined.Given as goal
 
 abbrev pub invariant-loop-i : goal.invariant-loop-i

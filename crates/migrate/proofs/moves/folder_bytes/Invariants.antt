@@ -1,5 +1,5 @@
 -- The place only falls.
-use Rattle.std.proofs.Common.{◌≤◌, length, rules}
+use Rattle.std.proofs.Common.{◌≤◌, length}
 use Rattle.migrate.proofs.moves.folder_bytes.Given as goal
 
 abbrev pub invariant-loop-k : goal.invariant-loop-k

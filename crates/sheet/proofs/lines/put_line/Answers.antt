@@ -1,6 +1,5 @@
 -- Name, text and line end stand one behind the other.
 use mathlib.Core.List.{[], ◌∷◌}
-use borrow.Author.Rules.{rules}
 use Rattle.sheet.proofs.Laid.{laid, laid_behind}
 use Rattle.sheet.proofs.lines.put_line.Goals as goal
 

@@ -3,7 +3,6 @@ use mathlib.Core.Path.{◌∙◌}
 use Prim.Native.Nat.{◌^◌, ◌≤◌, ◌<◌}
 use native.Mathlib.Omega.{arith}
 use lib.Dec.{lit<, lit≤}
-use borrow.Author.Rules.{rules}
 use Rattle.sheet.proofs.Laid.{line_spelled}
 use Rattle.sheet.proofs.Spelled.{decimal_spelled, fewest_most}
 use Rattle.sheet.proofs.lines.put_number.Goals as goal

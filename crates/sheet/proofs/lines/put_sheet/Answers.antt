@@ -1,7 +1,7 @@
 -- The nine lines stand one behind the other, and all of them have no more than 228 bytes.
-use mathlib.Core.Path.{refl, ◌∙◌}
+use mathlib.Core.Path.{◌∙◌}
 use Prim.Native.Nat.{◌≤◌}
-use native.Mathlib.Nat.{zero-add, le_refl, le_trans}
+use native.Mathlib.Nat.{zero-add, le_trans}
 use lib.Dec.{lit≤}
 use borrow.Author.Rules.{rules}
 use Rattle.sheet.specs.Lines.{decimal_digits, extreme_digits, lines_of}

@@ -1,6 +1,5 @@
 -- Each turn reads one more byte, of the two digits at twice its place.
 use Prim.Native.Nat.{◌-◌, ◌≤◌}
-use borrow.Author.Rules.{rules}
 use Rattle.vectors.proofs.bytes.pairs_in.Given as goal
 
 abbrev pub invariant-loop-i : goal.invariant-loop-i

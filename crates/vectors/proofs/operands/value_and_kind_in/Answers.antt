@@ -1,7 +1,5 @@
 -- The two sides of the first space are read as `beside` says.
-use Prim.Native.Nat.{ℕ}
-use mathlib.Core.Path.{◌≡◌, sym, ◌∙◌, ap}
-use mathlib.Core.List.{List}
+use mathlib.Core.Path.{sym, ◌∙◌, ap}
 use Rattle.text.specs.Names.{kind_named}
 use Rattle.text.specs.Words.{after_of}
 use Rattle.vectors.specs.declared.operands.OneValue.{OneValue}

@@ -2,7 +2,6 @@
 use Prim.Native.Nat.{ℕ}
 use mathlib.Core.Path.{◌≡◌, sym, ◌∙◌, ap}
 use mathlib.Core.List.{List}
-use borrow.Author.Rules.{rules}
 use Rattle.value.specs.declared.KindFound.{KindFound}
 use Rattle.text.specs.Words.{after_of}
 use Rattle.vectors.specs.Operands.{with_digits, with_kind, value_in}

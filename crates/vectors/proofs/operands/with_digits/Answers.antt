@@ -1,6 +1,5 @@
 -- The number of digits and then the digits decide, as in `with_digits`.
 use mathlib.Core.Path.{◌≡◌, sym, ◌∙◌, ap}
-use borrow.Author.Rules.{rules}
 use Rattle.vectors.specs.declared.operands.OneValue.TheVariants as one
 use Rattle.vectors.specs.Operands.{with_digits, with_bits}
 use Rattle.vectors.proofs.Values.{digits_amiss, digits_all}

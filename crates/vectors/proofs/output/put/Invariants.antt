@@ -1,6 +1,5 @@
 -- Each turn puts one byte, and what waits stays within the buffer.
 use Prim.Native.Nat.{◌-◌, ◌≤◌}
-use borrow.Author.Rules.{rules}
 use lib.ListN.{length}
 use Rattle.vectors.proofs.output.put.Given as goal
 

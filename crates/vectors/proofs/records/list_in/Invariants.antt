@@ -1,6 +1,5 @@
 -- Each turn reads one more item.
 use Prim.Native.Nat.{◌-◌, ◌≤◌}
-use borrow.Author.Rules.{rules}
 use Rattle.vectors.proofs.records.list_in.Given as goal
 
 abbrev pub invariant-loop-n : goal.invariant-loop-n

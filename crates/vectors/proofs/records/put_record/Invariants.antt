@@ -1,6 +1,5 @@
 -- Each turn puts one field, and what waits stays within the buffer.
 use Prim.Native.Nat.{◌-◌, ◌≤◌}
-use borrow.Author.Rules.{rules}
 use Rattle.vectors.proofs.records.put_record.Given as goal
 
 abbrev pub invariant-loop-at : goal.invariant-loop-at

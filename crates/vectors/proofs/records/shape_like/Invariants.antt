@@ -1,6 +1,5 @@
 -- Each turn sets one more place.
 use Prim.Native.Nat.{◌-◌, ◌≤◌}
-use borrow.Author.Rules.{rules}
 use Rattle.vectors.proofs.records.shape_like.Given as goal
 
 abbrev pub invariant-loop-at : goal.invariant-loop-at

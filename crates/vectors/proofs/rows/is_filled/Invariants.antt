@@ -1,6 +1,5 @@
 -- Each turn looks at one more place.
 use Prim.Native.Nat.{◌-◌, ◌≤◌}
-use borrow.Author.Rules.{rules}
 use Rattle.vectors.proofs.rows.is_filled.Given as goal
 
 abbrev pub invariant-loop-i : goal.invariant-loop-i

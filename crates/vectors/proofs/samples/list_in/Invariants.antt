@@ -1,6 +1,5 @@
 -- Each turn fills one more place.
 use Prim.Native.Nat.{◌-◌, ◌≤◌}
-use borrow.Author.Rules.{rules}
 use Rattle.vectors.proofs.samples.list_in.Given as goal
 
 abbrev pub invariant-loop-n : goal.invariant-loop-n

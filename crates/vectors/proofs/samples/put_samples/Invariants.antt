@@ -1,6 +1,5 @@
 -- Each turn puts one sample, and what waits stays within the buffer.
 use Prim.Native.Nat.{◌-◌, ◌≤◌}
-use borrow.Author.Rules.{rules}
 use Rattle.vectors.proofs.samples.put_samples.Given as goal
 
 abbrev pub invariant-loop-i : goal.invariant-loop-i
