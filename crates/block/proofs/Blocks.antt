@@ -125,6 +125,11 @@ module _ (from to : Kind) (before : ℕ) (src : List ℕ) (room : ℕ) (none : l
       past_left from to before (gives done) src room none
       ∙ ap (λ (b : Bool). refuse_if b 9 0 (placed_from before (block_answer from to src))) (lt-ltb (room / bytes_of to) (count_of from src) h)
 
+-- the samples up to the end of the block, as they are counted
+pub samples_then : (from : Kind) (before : ℕ) (src : List ℕ) → step_samples from before src ≡ (before + length src / bytes_of from) % 2 ^ 64
+unfolding step_samples
+samples_then from before src = refl
+
 module _ (from to : Kind) (before : ℕ) (answer : Outcome Success) (src old : List ℕ) where
   abbrev pub StepAnswers : Outcome Success → List ℕ → Type 0
   StepAnswers given left = (given ≡ step_answer from to before answer src (length old)) × (left ≡ step_exit from to before answer src old)
@@ -139,6 +144,9 @@ module _ (from to : Kind) (before : ℕ) (answer : Outcome Success) (src old : L
 
   pub step_left : (left_of from src ≡ 0 → ⊥) → StepAnswers (refuses 9 (step_samples from before src)) old
   step_left h = step_refused (left_over from to before answer src (length old) h)
+
+  pub exit_left : (left_of from src ≡ 0 → ⊥) → step_exit from to before answer src old ≡ old
+  exit_left h = sym (step_left h).1
 
 -- an earlier refusal, and none
 pub step_stays : (from to : Kind) (before : ℕ) (answer : Outcome Success) (src old : List ℕ) → left_of from src ≡ 0

@@ -100,6 +100,7 @@ fn block(samples: usize, from: Kind, to: Kind, src: &[u8], dst: &mut [u8]) -> Ro
 }
 
 // After a refusal the samples are only counted.
+#[tactic(auto, using(crate::proofs::Blocks::left_over, crate::proofs::Blocks::exit_left, crate::proofs::Blocks::samples_then))]
 pub fn convert_block(s: Progress, from: Kind, to: Kind, src: &[u8], dst: &mut [u8]) -> Progress
     ensures { StepTaken from to s src.now dst.old dst.new result }
 {

@@ -153,6 +153,7 @@ fn left_noted(s: Seen) -> Seen
 }
 
 // The block behind what was seen before it. To look without a kind to convert to, `to` is `from`: nothing is refused then.
+#[tactic(auto, using(crate::proofs::Looking::look_left, crate::proofs::Looking::look_whole))]
 pub fn look_block(s: Seen, from: Kind, to: Kind, src: &[u8]) -> Seen
     ensures { result ≡ look_of from to s src.now }
 {
