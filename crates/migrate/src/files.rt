@@ -60,44 +60,44 @@ pub(crate) fn text_of(bytes: &[u8]) -> Result<&str, i32> {
 }
 
 // IN for reading, or nothing after a line that says why.
-pub(crate) fn open_in(rt: HostRuntime, in_arg: usize, raw: bool) -> Option<File> {
+pub(crate) fn open_in(rt: HostRuntime, in_arg: usize, raw: bool) -> io::Result<Option<File>> {
     let mut buf = [0u8; 4096];
     let path = match path_in(rt, in_arg, &mut buf) {
         Ok(path) => path,
         Err(errno) => {
-            put_failure(rt, b"IN can't be opened", errno);
-            return None;
+            put_failure(rt, b"IN can't be opened", errno)?;
+            return Ok(None);
         }
     };
     let input = match File::open(&rt, path) {
         Ok(input) => input,
         Err(e) => {
-            put_failure(rt, b"IN can't be opened", number_of(e));
-            return None;
+            put_failure(rt, b"IN can't be opened", number_of(e))?;
+            return Ok(None);
         }
     };
-    if is_standard(rt, &input) {
-        return None;
+    if is_standard(rt, &input)? {
+        return Ok(None);
     }
     if raw {
-        return Some(input);
+        return Ok(Some(input));
     }
-    if put_if_container(rt, &input) {
-        return None;
+    if put_if_container(rt, &input)? {
+        return Ok(None);
     }
-    Some(input)
+    Ok(Some(input))
 }
 
 // A file that got the number of standard input, output or error, as that was closed, would have lines written into it: a line says so.
-pub(crate) fn is_standard(rt: HostRuntime, file: &File) -> bool {
+pub(crate) fn is_standard(rt: HostRuntime, file: &File) -> io::Result<bool> {
     if file.as_raw_fd() > 2 {
-        return false;
+        return Ok(false);
     }
     put_error(
         rt,
         b"standard input, output or error is closed: open it, on /dev/null for instance",
-    );
-    true
+    )?;
+    Ok(true)
 }
 
 // How many bytes a file has; nothing where the system doesn't say, as of a pipe. The next read is from its start.

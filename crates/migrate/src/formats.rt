@@ -2,6 +2,7 @@
 use crate::lines::put_text;
 use sample::sample_at;
 use std::fs::File;
+use std::io;
 use std::os::unix::fs::FileExt;
 use text::nth_word;
 use value::{Kind, bits_of};
@@ -9,25 +10,25 @@ use value::{Kind, bits_of};
 const NAMES: [u8; 34] = *b"NPY TIFF PNG JPEG-2000 OpenEXR ZIP";
 
 // Whether a file begins as one of these formats does; then a line says which. A pipe isn't looked at, as it can't be read twice.
-pub(crate) fn put_if_container(rt: HostRuntime, input: &File) -> bool {
+pub(crate) fn put_if_container(rt: HostRuntime, input: &File) -> io::Result<bool> {
     let mut head = [0u8; 8];
     if input.read_at(&mut head, 0).unwrap_or(0) < 4 {
-        return false;
+        return Ok(false);
     }
     let format = format_of(
         bits_of(sample_at(Kind::U32, &head, 0)),
         bits_of(sample_at(Kind::U32, &head, 1)),
     );
     if format > 5 {
-        return false;
+        return Ok(false);
     }
-    put_text(rt, b"error=IN begins as a file of ");
-    put_text(rt, nth_word(&NAMES, format));
+    put_text(rt, b"error=IN begins as a file of ")?;
+    put_text(rt, nth_word(&NAMES, format))?;
     put_text(
         rt,
         b" does, and not with a sample; if these are raw samples, say so by --raw\n",
-    );
-    true
+    )?;
+    Ok(true)
 }
 
 // The place of the format's name, or 6, by the first four bytes and the next four, low byte first: 93 NUM; II*, MM and their like of BigTIFF;

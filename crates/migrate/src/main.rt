@@ -15,6 +15,7 @@ use files::{argument, is_argument};
 use lines::{put_error, put_no_kind};
 use moves::migrate;
 use reports::report;
+use std::io;
 use text::{kind_named, word_number};
 use value::KindFound;
 
@@ -28,7 +29,7 @@ pub(crate) struct Options {
     pub into: bool,
 }
 
-fn main(rt: HostRuntime) {
+fn main(rt: HostRuntime) -> io::Result<()> {
     let o = with_next(
         rt,
         with_next(rt, with_next(rt, with_next(rt, no_options()))),
@@ -36,17 +37,18 @@ fn main(rt: HostRuntime) {
     let words = words_behind(rt, o.first);
     let asked = says(rt, o.first, b"report");
     if asked & (words == 3) {
-        report_alone(rt, o);
+        report_alone(rt, o)?;
     } else if asked & (words == 4) {
-        report_to(rt, o);
+        report_to(rt, o)?;
     } else if words == 4 {
-        move_file(rt, o);
+        move_file(rt, o)?;
     } else {
         put_error(
             rt,
             b"usage: migrate [--raw] [--progress] [--no-sync] FROM TO IN OUT, or migrate [--raw] [--progress] report FROM IN [TO]",
-        );
+        )?;
     }
+    Ok(())
 }
 
 // How many arguments there are from one on; 5 stands for more than 4.
@@ -93,14 +95,14 @@ fn says(rt: HostRuntime, i: usize, word: &[u8]) -> bool {
     word_number(&name[..n], word) == 0
 }
 
-fn move_file(rt: HostRuntime, o: Options) {
+fn move_file(rt: HostRuntime, o: Options) -> io::Result<()> {
     let KindFound::Is(from) = kind_in(rt, o, 0) else {
-        put_no_kind(rt, b"FROM");
-        return;
+        put_no_kind(rt, b"FROM")?;
+        return Ok(());
     };
     let KindFound::Is(to) = kind_in(rt, o, 1) else {
-        put_no_kind(rt, b"TO");
-        return;
+        put_no_kind(rt, b"TO")?;
+        return Ok(());
     };
     migrate(
         rt,
@@ -109,27 +111,30 @@ fn move_file(rt: HostRuntime, o: Options) {
         o.first.wrapping_add(2),
         o.first.wrapping_add(3),
         o,
-    );
+    )?;
+    Ok(())
 }
 
-fn report_alone(rt: HostRuntime, o: Options) {
+fn report_alone(rt: HostRuntime, o: Options) -> io::Result<()> {
     let KindFound::Is(from) = kind_in(rt, o, 1) else {
-        put_no_kind(rt, b"FROM");
-        return;
+        put_no_kind(rt, b"FROM")?;
+        return Ok(());
     };
-    report(rt, from, from, false, o.first.wrapping_add(2), o);
+    report(rt, from, from, false, o.first.wrapping_add(2), o)?;
+    Ok(())
 }
 
-fn report_to(rt: HostRuntime, o: Options) {
+fn report_to(rt: HostRuntime, o: Options) -> io::Result<()> {
     let KindFound::Is(from) = kind_in(rt, o, 1) else {
-        put_no_kind(rt, b"FROM");
-        return;
+        put_no_kind(rt, b"FROM")?;
+        return Ok(());
     };
     let KindFound::Is(to) = kind_in(rt, o, 3) else {
-        put_no_kind(rt, b"TO");
-        return;
+        put_no_kind(rt, b"TO")?;
+        return Ok(());
     };
-    report(rt, from, to, true, o.first.wrapping_add(2), o);
+    report(rt, from, to, true, o.first.wrapping_add(2), o)?;
+    Ok(())
 }
 
 // The kind that a word names; one that is longer than any name is none.

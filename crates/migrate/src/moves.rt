@@ -11,8 +11,8 @@ use crate::lines::{put_error, put_failure, put_number, put_refusal};
 use crate::names::made_beside;
 use migration::{Fault, State, run};
 use row::Rowed;
-use std::fs;
 use std::fs::{File, OpenOptions};
+use std::{fs, io};
 use value::Kind;
 
 // The system's number for what a file system can't do.
@@ -26,10 +26,11 @@ pub(crate) fn migrate(
     in_arg: usize,
     out_arg: usize,
     o: Options,
-) {
-    if let Some(mut input) = open_in(rt, in_arg, o.raw) {
-        migrate_from(rt, &mut input, from, to, out_arg, o);
+) -> io::Result<()> {
+    if let Some(mut input) = open_in(rt, in_arg, o.raw)? {
+        migrate_from(rt, &mut input, from, to, out_arg, o)?;
     }
+    Ok(())
 }
 
 fn migrate_from(
@@ -39,30 +40,39 @@ fn migrate_from(
     to: Kind,
     out_arg: usize,
     o: Options,
-) {
+) -> io::Result<()> {
     let mut buf = [0u8; 4096];
     match path_in(rt, out_arg, &mut buf) {
-        Err(errno) => put_failure(rt, b"OUT can't be made", errno),
+        Err(errno) => put_failure(rt, b"OUT can't be made", errno)?,
         Ok(out) => if out.is_empty() {
-            put_error(rt, b"OUT has no name");
+            put_error(rt, b"OUT has no name")?;
         } else if o.into {
-            migrate_into(rt, input, from, to, out, o);
+            migrate_into(rt, input, from, to, out, o)?;
         } else if is_taken(rt, out) {
-            put_error(rt, b"OUT is there already, and stays as it is");
+            put_error(rt, b"OUT is there already, and stays as it is")?;
         } else {
-            migrate_beside(rt, input, from, to, out, o);
+            migrate_beside(rt, input, from, to, out, o)?;
         },
     }
+    Ok(())
 }
 
 // OUT is the caller's, and empty, so that no byte of anybody's is written over and nothing stands behind the output. What isn't done leaves it so.
-fn migrate_into(rt: HostRuntime, input: &mut File, from: Kind, to: Kind, out: &str, o: Options) {
+fn migrate_into(
+    rt: HostRuntime,
+    input: &mut File,
+    from: Kind,
+    to: Kind,
+    out: &str,
+    o: Options,
+) -> io::Result<()> {
     match OpenOptions::new().read(true).write(true).open(&rt, out) {
-        Err(e) => put_failure(rt, b"OUT can't be opened", number_of(e)),
-        Ok(output) => if !is_standard(rt, &output) {
-            migrate_in(rt, input, output, from, to, o);
+        Err(e) => put_failure(rt, b"OUT can't be opened", number_of(e))?,
+        Ok(output) => if !is_standard(rt, &output)? {
+            migrate_in(rt, input, output, from, to, o)?;
         },
     }
+    Ok(())
 }
 
 fn migrate_in(
@@ -72,9 +82,9 @@ fn migrate_in(
     from: Kind,
     to: Kind,
     o: Options,
-) {
-    if is_filled(rt, &mut output) {
-        return;
+) -> io::Result<()> {
+    if is_filled(rt, &mut output)? {
+        return Ok(());
     }
     let size = size_of(input);
     let watch = watched(rt, o.progress, size);
@@ -84,30 +94,39 @@ fn migrate_in(
         let _ = output.set_len(0);
     }
     closed(output);
-    put_answer(rt, r, changed);
+    put_answer(rt, r, changed)?;
+    Ok(())
 }
 
 // Closes a file. What the system says to that is lost: the library doesn't tell it.
 fn closed(_file: File) {}
 
 // Whether a file that should be empty isn't, or isn't one that has a length; then a line says so.
-fn is_filled(rt: HostRuntime, file: &mut File) -> bool {
+fn is_filled(rt: HostRuntime, file: &mut File) -> io::Result<bool> {
     if is_empty(file) {
-        return false;
+        return Ok(false);
     }
-    put_error(rt, b"OUT is not empty, or not a regular file");
-    true
+    put_error(rt, b"OUT is not empty, or not a regular file")?;
+    Ok(true)
 }
 
 // The file beside OUT is called as OUT is, with `.part-XXXXXX` behind it: other letters for the last six make it this run's alone.
-fn migrate_beside(rt: HostRuntime, input: &mut File, from: Kind, to: Kind, out: &str, o: Options) {
+fn migrate_beside(
+    rt: HostRuntime,
+    input: &mut File,
+    from: Kind,
+    to: Kind,
+    out: &str,
+    o: Options,
+) -> io::Result<()> {
     if out.len() > 4083 {
-        put_failure(rt, b"OUT can't be made", ENAMETOOLONG);
-        return;
+        put_failure(rt, b"OUT can't be made", ENAMETOOLONG)?;
+        return Ok(());
     }
     let n = out.len() + 12;
     let mut part = joined(out.as_bytes(), b".part-XXXXXX");
-    migrate_to(rt, input, from, to, out, &mut part[..n], o);
+    migrate_to(rt, input, from, to, out, &mut part[..n], o)?;
+    Ok(())
 }
 
 fn migrate_to(
@@ -118,13 +137,14 @@ fn migrate_to(
     out: &str,
     part: &mut [u8],
     o: Options,
-) {
+) -> io::Result<()> {
     let made = made_beside(rt, part);
     match (made, text_of(part)) {
-        (Ok(output), Ok(part)) => migrate_through(rt, input, output, from, to, out, part, o),
-        (Err(errno), _) => put_failure(rt, b"no file can be made beside OUT", errno),
-        (_, Err(errno)) => put_failure(rt, b"no file can be made beside OUT", errno),
+        (Ok(output), Ok(part)) => migrate_through(rt, input, output, from, to, out, part, o)?,
+        (Err(errno), _) => put_failure(rt, b"no file can be made beside OUT", errno)?,
+        (_, Err(errno)) => put_failure(rt, b"no file can be made beside OUT", errno)?,
     }
+    Ok(())
 }
 
 fn migrate_through(
@@ -136,10 +156,10 @@ fn migrate_through(
     out: &str,
     part: &str,
     o: Options,
-) {
-    if is_standard(rt, &output) {
+) -> io::Result<()> {
+    if is_standard(rt, &output)? {
         removed(rt, part);
-        return;
+        return Ok(());
     }
     let size = size_of(input);
     let watch = watched(rt, o.progress, size);
@@ -149,13 +169,14 @@ fn migrate_through(
     let failure = stored(output, done & !o.unsynced);
     if !done {
         removed(rt, part);
-        put_answer(rt, r, changed);
+        put_answer(rt, r, changed)?;
     } else if failure != 0 {
         removed(rt, part);
-        put_failure(rt, b"OUT can't be brought to the disk", failure);
-    } else if named(rt, part, out, o) {
-        put_answer(rt, r, changed);
+        put_failure(rt, b"OUT can't be brought to the disk", failure)?;
+    } else if named(rt, part, out, o)? {
+        put_answer(rt, r, changed)?;
     }
+    Ok(())
 }
 
 fn removed(rt: HostRuntime, part: &str) {
@@ -191,19 +212,19 @@ fn stored(file: File, synced: bool) -> i32 {
 }
 
 // Gives the output its name, unless something has it by now, and brings the folder to the disk: whether all went well; else a line says why.
-fn named(rt: HostRuntime, part: &str, out: &str, o: Options) -> bool {
+fn named(rt: HostRuntime, part: &str, out: &str, o: Options) -> io::Result<bool> {
     if is_taken(rt, out) {
         removed(rt, part);
-        put_error(rt, b"OUT is there by now, and stays as it is");
-        return false;
+        put_error(rt, b"OUT is there by now, and stays as it is")?;
+        return Ok(false);
     }
     if let Err(e) = fs::rename(&rt, part, out) {
         removed(rt, part);
-        put_failure(rt, b"the output can't be given the name OUT", number_of(e));
-        return false;
+        put_failure(rt, b"the output can't be given the name OUT", number_of(e))?;
+        return Ok(false);
     }
     if o.unsynced {
-        return true;
+        return Ok(true);
     }
     let errno = folder_stored(rt, out.as_bytes());
     if (errno != 0) & (errno != EINVAL) {
@@ -211,10 +232,10 @@ fn named(rt: HostRuntime, part: &str, out: &str, o: Options) -> bool {
             rt,
             b"OUT is whole, but its folder can't be brought to the disk",
             errno,
-        );
-        return false;
+        )?;
+        return Ok(false);
     }
-    true
+    Ok(true)
 }
 
 // How many bytes of a path name its folder, with the slash behind it; 0 for a name alone.
@@ -249,28 +270,30 @@ fn folder_stored(rt: HostRuntime, path: &[u8]) -> i32 {
 }
 
 // The lines of the answer.
-fn put_answer(rt: HostRuntime, r: State, changed: bool) {
+fn put_answer(rt: HostRuntime, r: State, changed: bool) -> io::Result<()> {
     let fault = r.fault;
     match fault {
-        Fault::Reading(errno) => put_failure(rt, b"IN can't be read", errno),
-        Fault::Writing(errno) => put_failure(rt, b"OUT can't be written", errno),
+        Fault::Reading(errno) => put_failure(rt, b"IN can't be read", errno)?,
+        Fault::Writing(errno) => put_failure(rt, b"OUT can't be written", errno)?,
         Fault::Nothing => {
             if changed {
-                put_error(rt, b"IN changed while it was read");
+                put_error(rt, b"IN changed while it was read")?;
             } else {
-                put_result(rt, r);
+                put_result(rt, r)?;
             }
         }
     }
+    Ok(())
 }
 
-fn put_result(rt: HostRuntime, r: State) {
+fn put_result(rt: HostRuntime, r: State) -> io::Result<()> {
     let progress = r.progress;
     let sample = r.sample;
     let answer = progress.answer;
-    put_number(rt, b"samples=", progress.samples as u64);
+    put_number(rt, b"samples=", progress.samples as u64)?;
     match answer {
-        Rowed::Done => put_number(rt, b"refused=", 0),
-        Rowed::Refused(f) => put_refusal(rt, f, sample),
+        Rowed::Done => put_number(rt, b"refused=", 0)?,
+        Rowed::Refused(f) => put_refusal(rt, f, sample)?,
     }
+    Ok(())
 }

@@ -21,6 +21,7 @@ ghost use Rattle.std.specs.Prelude.{◌+◌, ◌≤◌, ◌<◌, length};
 use lines::put_reply;
 use output::{Buffer, empty, flush, put_byte};
 use rows::{RowF32, RowU8, RowU16};
+use std::io;
 use std::io::{Read, Stdin};
 use text::place_of;
 
@@ -43,7 +44,8 @@ struct Done {
     used: usize,
 }
 
-fn main(rt: HostRuntime) {
+// Where answers can't be written, the program ends with the error.
+fn main(rt: HostRuntime) -> io::Result<()> {
     let mut input: Input = [0; 65536];
     let mut output = empty(rt.stdout());
     let mut u8s: RowU8 = [0; 8192];
@@ -57,6 +59,10 @@ fn main(rt: HostRuntime) {
         &mut u16s,
         &mut f32s,
     );
+    if output.failure != 0 {
+        return Err(io::Error::from_raw_os_error(output.failure));
+    }
+    Ok(())
 }
 
 fn run(
@@ -110,7 +116,7 @@ fn step(
     State {
         held: keep(input, next, full),
         used: done.used,
-        turns: s.turns - 1,
+        turns: if output.failure != 0 { 0 } else { s.turns - 1 },
     }
 }
 

@@ -3,17 +3,22 @@ ghost use Rattle.std.specs.Prelude.{◌≤◌};
 
 use std::io::Stdout;
 
-// The bytes that wait, and where they are written to.
+// The system's number for an error of the device: it stands for one that has none.
+const EIO: i32 = 5;
+
+// The bytes that wait, where they are written to, and the system's number of the first write that failed, 0 while none has.
 #[derive(Drop)]
 pub(crate) struct Buffer {
     pub bytes: [u8; 65536],
     pub to: Stdout,
+    pub failure: i32,
 }
 
 pub(crate) fn empty(to: Stdout) -> Buffer {
     Buffer {
         bytes: [0; 65536],
         to,
+        failure: 0,
     }
 }
 
@@ -74,9 +79,14 @@ pub(crate) fn put_comma(output: &mut Buffer, used: usize, at: usize) -> usize
     put_byte(output, used, b',')
 }
 
-// Writes out the first `used` bytes of output. Answers that can't be written are lost.
-pub(crate) fn flush(output: &Buffer, used: usize)
+// Writes out the first `used` bytes of output. Once a write has failed nothing more is written.
+pub(crate) fn flush(output: &mut Buffer, used: usize)
     requires { used ≤ 65536 }
 {
-    let _ = output.to.write_all(&output.bytes[..used]);
+    if output.failure != 0 {
+        return;
+    }
+    if let Err(e) = output.to.write_all(&output.bytes[..used]) {
+        output.failure = e.raw_os_error().unwrap_or(EIO);
+    }
 }
