@@ -12,8 +12,7 @@ ghost use Rattle.block.specs.Migrate.{block_answer};
 ghost use Rattle.block.specs.Inner.{half_bits, block_exit};
 
 use crate::layouts::pair;
-use row::Rowed;
-use value::Kind;
+use value::{Kind, Refusal};
 
 // Whether one of the first n samples is a NaN.
 pub(crate) fn holds_nan(src: &[u8], n: usize) -> bool
@@ -62,12 +61,12 @@ fn write_wide(t: &[u32; 1024], src: &[u8], n: usize, dst: &mut [u8])
 }
 
 // A block without NaN.
-pub(crate) fn from_halves(src: &[u8], n: usize, dst: &mut [u8]) -> Rowed
+pub(crate) fn from_halves(src: &[u8], n: usize, dst: &mut [u8]) -> Result<(), Refusal>
     requires { (n ≡ count_of Kind.F16 src.now) × (any (nan_in f16) (numbers_in 2 n src.now) ≡ false) × (n ≤ length dst.old / bytes_of Kind.F32) }
     ensures answer { rowed_outcome result ≡ block_answer Kind.F16 Kind.F32 src.now }
     ensures exit { dst.new ≡ block_exit Kind.F16 Kind.F32 src.now dst.old }
 {
     let table = half::whole_table();
     write_wide(&table, src, n, dst);
-    Rowed::Done
+    Ok(())
 }

@@ -9,8 +9,8 @@ mod passes;
 mod rows;
 mod steps;
 
-use row::Rowed;
 pub use steps::convert_block;
+use value::Refusal;
 
 // How many places a row for a whole block has; a longer block of such a pair goes sample by sample.
 pub const ROW_PLACES: usize = 32768;
@@ -19,5 +19,5 @@ pub const ROW_PLACES: usize = 32768;
 #[derive(Clone, Copy)]
 pub struct Progress {
     pub samples: usize,
-    pub answer: Rowed,
+    pub answer: Result<(), Refusal>,
 }

@@ -9,7 +9,7 @@ ghost use Rattle.block.specs.Output.{bytes_for};
 ghost use Rattle.block.specs.Inner.{given_bits, moved_bits};
 
 use crate::bytes::store;
-use convert::{Converted, convert};
+use convert::convert;
 use sample::{is_refused, sample_at};
 use value::{Kind, Value, bits_of, bytes_of};
 
@@ -33,8 +33,8 @@ fn bits_to(v: Value, to: Kind) -> u64
     ensures { result ≡ given_bits (bits_to to v) }
 {
     match convert(v, to) {
-        Converted::To(w) => bits_of(w),
-        Converted::Refused(_) => 0,
+        Ok(w) => bits_of(w),
+        Err(_) => 0,
     }
 }
 

@@ -12,15 +12,14 @@ ghost use Rattle.block.specs.Inner.{block_exit, floated_bits};
 
 use crate::ROW_PLACES;
 use crate::layouts::{load_f32s, load_u16s, store_f32s, store_u16s};
-use row::Rowed;
-use value::Kind;
+use value::{Kind, Refusal};
 
 // u8 to u16 by a row that has a place for each sample; its bytes from a place on.
 fn widen_row(src: &[u8], wide: &mut [u16], dst: &mut [u8], at: usize)
     requires { (length src.now ≡ length wide.old) × (at + 2 * length src.now ≤ length dst.old) }
     ensures { dst.new ≡ sets dst.old at (bytes_for Kind.U16 (map (λ (n : ℕ). n) src.now)) }
 {
-    row::u8_to_u16(src, wide);
+    let _ = row::u8_to_u16(src, wide);
     store_u16s(wide, dst, at);
 }
 
@@ -54,14 +53,14 @@ fn widen_rows(src: &[u8], wide: &mut [u16], dst: &mut [u8])
     widen_rest(&src[end..], dst, 2 * end);
 }
 
-pub(crate) fn widened(src: &[u8], dst: &mut [u8]) -> Rowed
+pub(crate) fn widened(src: &[u8], dst: &mut [u8]) -> Result<(), Refusal>
     requires { count_of Kind.U8 src.now ≤ length dst.old / bytes_of Kind.U16 }
     ensures answer { rowed_outcome result ≡ block_answer Kind.U8 Kind.U16 src.now }
     ensures exit { dst.new ≡ block_exit Kind.U8 Kind.U16 src.now dst.old }
 {
     let mut wide = [0u16; 16];
     widen_rows(src, &mut wide, dst);
-    Rowed::Done
+    Ok(())
 }
 
 // u16 to f32 by two rows that have a place for each sample; their bytes from a place on.
@@ -71,7 +70,7 @@ fn float_row(src: &[u8], wide: &mut [u16], reals: &mut [f32], dst: &mut [u8], at
         ≡ sets dst.old at (bytes_for Kind.F32 (map floated_bits (numbers_in 2 (length wide.old) src.now))) }
 {
     load_u16s(src, wide);
-    row::u16_to_f32(wide, reals);
+    let _ = row::u16_to_f32(wide, reals);
     store_f32s(reals, dst, at);
 }
 
@@ -106,7 +105,7 @@ fn float_rows(src: &[u8], samples: usize, wide: &mut [u16], reals: &mut [f32], d
     float_rest(&src[2 * end..], samples - end, dst, 4 * end);
 }
 
-pub(crate) fn floated(src: &[u8], n: usize, dst: &mut [u8]) -> Rowed
+pub(crate) fn floated(src: &[u8], n: usize, dst: &mut [u8]) -> Result<(), Refusal>
     requires { (n ≡ count_of Kind.U16 src.now) × (n ≤ length dst.old / bytes_of Kind.F32) }
     ensures answer { rowed_outcome result ≡ block_answer Kind.U16 Kind.F32 src.now }
     ensures exit { dst.new ≡ block_exit Kind.U16 Kind.F32 src.now dst.old }
@@ -114,11 +113,11 @@ pub(crate) fn floated(src: &[u8], n: usize, dst: &mut [u8]) -> Rowed
     let mut wide = [0u16; 16];
     let mut reals = [0.0f32; 16];
     float_rows(src, n, &mut wide, &mut reals, dst);
-    Rowed::Done
+    Ok(())
 }
 
 // u16 to u8: the front of the buffer is the second row.
-fn narrow_row(src: &[u8], wide: &mut [u16], dst: &mut [u8]) -> Rowed
+fn narrow_row(src: &[u8], wide: &mut [u16], dst: &mut [u8]) -> Result<(), Refusal>
     requires { (length wide.old ≡ count_of Kind.U16 src.now) × (length wide.old ≤ length dst.old) }
     ensures answer { rowed_outcome result ≡ block_answer Kind.U16 Kind.U8 src.now }
     ensures exit { dst.new ≡ block_exit Kind.U16 Kind.U8 src.now dst.old }
@@ -127,7 +126,7 @@ fn narrow_row(src: &[u8], wide: &mut [u16], dst: &mut [u8]) -> Rowed
     row::u16_to_u8(wide, &mut dst[..wide.len()])
 }
 
-pub(crate) fn narrowed(src: &[u8], n: usize, dst: &mut [u8]) -> Rowed
+pub(crate) fn narrowed(src: &[u8], n: usize, dst: &mut [u8]) -> Result<(), Refusal>
     requires { (n ≡ count_of Kind.U16 src.now) × (n ≤ length dst.old / bytes_of Kind.U8) × (n ≤ row_places) }
     ensures answer { rowed_outcome result ≡ block_answer Kind.U16 Kind.U8 src.now }
     ensures exit { dst.new ≡ block_exit Kind.U16 Kind.U8 src.now dst.old }
@@ -137,7 +136,7 @@ pub(crate) fn narrowed(src: &[u8], n: usize, dst: &mut [u8]) -> Rowed
 }
 
 // f32 to u16, by way of two rows that have a place for each sample.
-fn whole_row(src: &[u8], reals: &mut [f32], wide: &mut [u16], dst: &mut [u8]) -> Rowed
+fn whole_row(src: &[u8], reals: &mut [f32], wide: &mut [u16], dst: &mut [u8]) -> Result<(), Refusal>
     requires { (length reals.old ≡ count_of Kind.F32 src.now) × (length reals.old ≡ length wide.old)
         × (length reals.old ≤ length dst.old / bytes_of Kind.U16) }
     ensures answer { rowed_outcome result ≡ block_answer Kind.F32 Kind.U16 src.now }
@@ -146,15 +145,15 @@ fn whole_row(src: &[u8], reals: &mut [f32], wide: &mut [u16], dst: &mut [u8]) ->
     load_f32s(src, reals);
     let r = row::f32_to_u16(reals, wide);
     match r {
-        Rowed::Done => {
+        Ok(()) => {
             store_u16s(wide, dst, 0);
-            Rowed::Done
+            Ok(())
         }
-        Rowed::Refused(_) => r,
+        Err(_) => r,
     }
 }
 
-pub(crate) fn made_whole(src: &[u8], n: usize, dst: &mut [u8]) -> Rowed
+pub(crate) fn made_whole(src: &[u8], n: usize, dst: &mut [u8]) -> Result<(), Refusal>
     requires { (n ≡ count_of Kind.F32 src.now) × (n ≤ length dst.old / bytes_of Kind.U16) × (n ≤ row_places) }
     ensures answer { rowed_outcome result ≡ block_answer Kind.F32 Kind.U16 src.now }
     ensures exit { dst.new ≡ block_exit Kind.F32 Kind.U16 src.now dst.old }

@@ -11,19 +11,18 @@ use crate::halves::{from_halves, holds_nan};
 use crate::passes::{first_refused, write_samples};
 use crate::rows::{floated, made_whole, narrowed, widened};
 use crate::{Progress, ROW_PLACES};
-use row::Rowed;
 use sample::{count, number_of, sample_at};
 use std::num::wrapping_add_usize;
 use value::{Kind, Refusal, bytes_of};
 
-fn refused(number: u8, place: usize) -> Rowed
-    ensures { result ≡ Rowed.Refused (record { number = number; place = place }) }
+fn refused(number: u8, place: usize) -> Result<(), Refusal>
+    ensures { result ≡ Err (record { number = number; place = place }) }
 {
-    Rowed::Refused(Refusal { number, place })
+    Err(Refusal { number, place })
 }
 
 // The samples one by one: the buffer, which has room for them, is written whole, or left as it was.
-fn one_by_one(from: Kind, to: Kind, src: &[u8], n: usize, dst: &mut [u8]) -> Rowed
+fn one_by_one(from: Kind, to: Kind, src: &[u8], n: usize, dst: &mut [u8]) -> Result<(), Refusal>
     requires { (n ≡ count_of from src.now) × (n ≤ length dst.old / bytes_of to) }
     ensures answer { rowed_outcome result ≡ block_answer from to src.now }
     ensures exit { dst.new ≡ block_exit from to src.now dst.old }
@@ -33,11 +32,11 @@ fn one_by_one(from: Kind, to: Kind, src: &[u8], n: usize, dst: &mut [u8]) -> Row
         return refused(number_of(sample_at(from, src, i), to), i);
     }
     write_samples(from, to, src, n, dst);
-    Rowed::Done
+    Ok(())
 }
 
 // The pairs that have rows go through the row calls, f16 to f32 without NaN through a pass of its own, all else sample by sample.
-fn by_pair(from: Kind, to: Kind, src: &[u8], n: usize, dst: &mut [u8]) -> Rowed
+fn by_pair(from: Kind, to: Kind, src: &[u8], n: usize, dst: &mut [u8]) -> Result<(), Refusal>
     requires { (n ≡ count_of from src.now) × (n ≤ length dst.old / bytes_of to) }
     ensures answer { rowed_outcome result ≡ block_answer from to src.now }
     ensures exit { dst.new ≡ block_exit from to src.now dst.old }
@@ -77,17 +76,17 @@ fn by_pair(from: Kind, to: Kind, src: &[u8], n: usize, dst: &mut [u8]) -> Rowed
 }
 
 // A place in the block as a place in the whole.
-fn placed(samples: usize, r: Rowed) -> Rowed
+fn placed(samples: usize, r: Result<(), Refusal>) -> Result<(), Refusal>
     ensures { rowed_outcome result ≡ placed_from samples (rowed_outcome r) }
 {
     match r {
-        Rowed::Done => Rowed::Done,
-        Rowed::Refused(f) => refused(f.number, wrapping_add_usize(samples, f.place)),
+        Ok(()) => Ok(()),
+        Err(f) => refused(f.number, wrapping_add_usize(samples, f.place)),
     }
 }
 
 // A block of whole samples behind samples that were accepted. A buffer without room is about no sample, so it has the place 0.
-fn block(samples: usize, from: Kind, to: Kind, src: &[u8], dst: &mut [u8]) -> Rowed
+fn block(samples: usize, from: Kind, to: Kind, src: &[u8], dst: &mut [u8]) -> Result<(), Refusal>
     requires { left_of from src.now ≡ 0 }
     ensures answer { rowed_outcome result ≡ step_answer from to samples (gives done) src.now (length dst.old) }
     ensures exit { dst.new ≡ step_exit from to samples (gives done) src.now dst.old }
@@ -114,10 +113,10 @@ pub fn convert_block(s: Progress, from: Kind, to: Kind, src: &[u8], dst: &mut [u
     }
     let answer = s.answer;
     match answer {
-        Rowed::Done => Progress {
+        Ok(()) => Progress {
             samples,
             answer: block(s.samples, from, to, src, dst),
         },
-        Rowed::Refused(_) => Progress { samples, answer },
+        Err(_) => Progress { samples, answer },
     }
 }

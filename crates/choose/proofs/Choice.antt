@@ -1,4 +1,5 @@
 -- Choosing and clamping by the orders that were compared.
+use Rattle.std.specs.Prelude.{Result, Err, Ok}
 use mathlib.Core.Path.{◌≡◌, refl, sym, ◌∙◌, ap}
 use mathlib.Core.Bool.{Bool, true, false, not, true≢false}
 use borrow.Author.Tests.{eq-eqb}
@@ -7,12 +8,10 @@ use Rattle.float.specs.Order.{is_less, is_less_or_equal, is_greater, is_unordere
 use Rattle.float.proofs.Tests.{clash}
 use Rattle.value.specs.declared.Value.{Value}
 use Rattle.value.specs.declared.Refusal.{Refusal}
-use Rattle.value.specs.Outcome.{Outcome, gives, refuses, refuse_if, refusal_of, and_then}
+use Rattle.value.specs.Outcome.{Outcome, gives, refuses, refuse_if, refusal_of, and_then, outcome_of}
 use Rattle.value.specs.Rules.{chain}
 use Rattle.value.proofs.Rules.{chain_then}
-use Rattle.cmp.specs.declared.Compared.{Compared}
-use Rattle.cmp.specs.declared.Compared.TheVariants as compared
-use Rattle.cmp.specs.Compare.{compared_outcome, kinds_differ, value_rules, value_order, compare_of}
+use Rattle.cmp.specs.Compare.{kinds_differ, value_rules, value_order, compare_of}
 use Rattle.cmp.proofs.KindTests.{one_kind}
 use Rattle.cmp.specs.Inner.{chosen_by}
 use Rattle.choose.specs.Choose.{min_of, max_of, clamp_of}
@@ -20,12 +19,12 @@ use Rattle.choose.specs.Inner.{clamped_by}
 
 -- ---- after a comparison
 
-module _ {B : Type 0} {c : Compared} where
-  pub then_order : (next : Order → Outcome B) {o : Order} {r : Outcome B} → c ≡ compared.Is o → r ≡ next o → r ≡ and_then (compared_outcome c) next
-  then_order next q h = h ∙ sym (ap (λ (d : Compared). and_then (compared_outcome d) next) q)
+module _ {B : Type 0} {c : Result Order Refusal} where
+  pub then_order : (next : Order → Outcome B) {o : Order} {r : Outcome B} → c ≡ Ok o → r ≡ next o → r ≡ and_then (outcome_of c) next
+  then_order next q h = h ∙ sym (ap (λ (d : Result Order Refusal). and_then (outcome_of d) next) q)
 
-  pub then_refusal : (next : Order → Outcome B) {f : Refusal} → c ≡ compared.Refused f → refusal_of f ≡ and_then (compared_outcome c) next
-  then_refusal next q = sym (ap (λ (d : Compared). and_then (compared_outcome d) next) q)
+  pub then_refusal : (next : Order → Outcome B) {f : Refusal} → c ≡ Err f → refusal_of f ≡ and_then (outcome_of c) next
+  then_refusal next q = sym (ap (λ (d : Result Order Refusal). and_then (outcome_of d) next) q)
 
 -- a comparison, and then what follows, is rule 7 and then what follows
 compare_then : {B : Type 0} (next : Order → Outcome B) (a b : Value) → and_then (compare_of a b) next ≡ chain (value_rules a b) (next (value_order a b))

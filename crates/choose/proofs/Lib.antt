@@ -1,4 +1,3 @@
 pub mod Choice
 pub mod Samples
 pub mod DefaultRange
-pub mod Determined

@@ -1,5 +1,6 @@
 -- Choosing between two values, and clamping one value or one sample. RULES.md: Choosing and clamping, Refusals.
-use Rattle.std.specs.Prelude.{not, ◌||◌, cond, List, [], ◌∷◌, Float}
+use Rattle.value.specs.declared.Refusal.{Refusal}
+use Rattle.std.specs.Prelude.{not, ◌||◌, cond, List, [], ◌∷◌, Float, Result, Err, Ok}
 use Rattle.std.specs.Float.{binary32}
 use Rattle.std.specs.Float.Ieee.{to_bits, of_bits}
 use Rattle.float.specs.declared.Order.{Order}
@@ -10,26 +11,7 @@ use Rattle.value.specs.Outcome.{Outcome, gives, refusal_of}
 use Rattle.value.specs.Rules.{Rule, rule, chain}
 use Rattle.cmp.specs.Compare.{kinds_differ, value_order}
 use Rattle.cmp.specs.ByOrder.{unordered, other_if_greater}
-use Rattle.choose.specs.declared.Chosen.{Chosen}
-use Rattle.choose.specs.declared.Chosen.TheVariants as chosen
 use Rattle.choose.specs.declared.Range.{Range}
-use Rattle.choose.specs.declared.Ranged.{Ranged}
-use Rattle.choose.specs.declared.Ranged.TheVariants as ranged
-use Rattle.choose.specs.declared.Sampled.{Sampled}
-use Rattle.choose.specs.declared.Sampled.TheVariants as sampled
-
--- what the answers say in the words of the rules
-abbrev pub chosen_outcome : Chosen → Outcome Value
-chosen_outcome (chosen.Is v) = gives v
-chosen_outcome (chosen.Refused f) = refusal_of f
-
-abbrev pub ranged_outcome : Ranged → Outcome Range
-ranged_outcome (ranged.Is r) = gives r
-ranged_outcome (ranged.Refused f) = refusal_of f
-
-abbrev pub sampled_outcome : Sampled → Outcome Float
-sampled_outcome (sampled.Is x) = gives x
-sampled_outcome (sampled.Refused f) = refusal_of f
 
 -- the order of two f32 samples is that of their bits
 abbrev pub sample_order : Float → Float → Order

@@ -1,9 +1,10 @@
 // A range of samples: two f32 bounds by value. RULES.md: Choosing and clamping.
 // The language's own comparison of floats is the comparison of their bits (float/proofs/Operators).
+ghost use Rattle.value.specs.Outcome.{outcome_of};
 ghost use Rattle.std.specs.Prelude.{◌≡◌};
-ghost use Rattle.choose.specs.Choose.{ranged_outcome, sampled_outcome, default_range, range_of, sample_of};
+ghost use Rattle.choose.specs.Choose.{default_range, range_of, sample_of};
 
-use crate::{Range, Ranged, Sampled};
+use crate::Range;
 use value::Refusal;
 
 impl Range {
@@ -17,51 +18,51 @@ impl Range {
         }
     }
 
-    pub fn new(lower: f32, upper: f32) -> Ranged
-        ensures { ranged_outcome result ≡ range_of lower upper }
+    pub fn new(lower: f32, upper: f32) -> Result<Range, Refusal>
+        ensures { outcome_of result ≡ range_of lower upper }
     {
         if lower <= upper {
-            Ranged::Is(Range { lower, upper })
+            Ok(Range { lower, upper })
         } else {
-            Ranged::Refused(Refusal {
+            Err(Refusal {
                 number: 6,
                 place: 0,
             })
         }
     }
 
-    pub fn with_lower(self, x: f32) -> Ranged
-        ensures { ranged_outcome result ≡ range_of x self.upper }
+    pub fn with_lower(self, x: f32) -> Result<Range, Refusal>
+        ensures { outcome_of result ≡ range_of x self.upper }
     {
         Range::new(x, self.upper)
     }
 
-    pub fn with_upper(self, x: f32) -> Ranged
-        ensures { ranged_outcome result ≡ range_of self.lower x }
+    pub fn with_upper(self, x: f32) -> Result<Range, Refusal>
+        ensures { outcome_of result ≡ range_of self.lower x }
     {
         Range::new(self.lower, x)
     }
 
-    pub fn clamp(self, x: f32) -> Sampled
-        ensures { sampled_outcome result ≡ sample_of self x }
+    pub fn clamp(self, x: f32) -> Result<f32, Refusal>
+        ensures { outcome_of result ≡ sample_of self x }
     {
         let low = self.lower;
         let high = self.upper;
         if low <= high {
             if x != x {
-                Sampled::Refused(Refusal {
+                Err(Refusal {
                     number: 8,
                     place: 0,
                 })
             } else if x < low {
-                Sampled::Is(low)
+                Ok(low)
             } else if high < x {
-                Sampled::Is(high)
+                Ok(high)
             } else {
-                Sampled::Is(x)
+                Ok(x)
             }
         } else {
-            Sampled::Refused(Refusal {
+            Err(Refusal {
                 number: 6,
                 place: 0,
             })

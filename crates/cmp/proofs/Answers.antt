@@ -1,4 +1,5 @@
 -- What each arm of a match on two values answers.
+use Rattle.std.specs.Prelude.{Result, Err, Ok}
 use mathlib.Core.Path.{◌≡◌, refl, sym, ◌∙◌, ap, subst}
 use mathlib.Core.Bool.{Bool, true, false}
 use Prim.Native.Nat.{ℕ}
@@ -13,13 +14,11 @@ use Rattle.value.specs.declared.Kind.TheVariants as kind
 use Rattle.value.specs.declared.Value.{Value}
 use Rattle.value.specs.Kinds.{kind_of, form_of, is_integer}
 use Rattle.value.specs.Meaning.{whole_of, number_of, position_of, exact_of, unit, step_of}
-use Rattle.value.specs.Outcome.{gives, refuses, refuse_if, refusal_of, mapped}
+use Rattle.value.specs.Outcome.{gives, refuses, refuse_if, refusal_of, mapped, outcome_of}
 use Rattle.value.proofs.Forms.{Whole}
 use Rattle.value.proofs.KindNumbers.{number_injective}
 use Rattle.value.specs.declared.Refusal.{Refusal}
-use Rattle.cmp.specs.declared.Compared.{Compared}
-use Rattle.cmp.specs.declared.Compared.TheVariants as compared
-use Rattle.cmp.specs.Compare.{kinds_differ, compare_of, total_of, compared_outcome}
+use Rattle.cmp.specs.Compare.{kinds_differ, compare_of, total_of}
 use Rattle.cmp.proofs.KindTests.{NotOf, whole_left, differ, alike, one_kind}
 use Rattle.cmp.proofs.Numbers.{integers_order, patterns_order, positions_order}
 
@@ -77,10 +76,10 @@ total_integers a b f g h = integers_agree a b (whole_left a f g h)
 
 -- ---- a test of what was compared
 
-module _ (less equal greater unordered : Bool) {c : Compared} where
-  pub tested_order : {o p : Order} → c ≡ compared.Is o → o ≡ p
-      → gives (answer less equal greater unordered p) ≡ mapped (answer less equal greater unordered) (compared_outcome c)
+module _ (less equal greater unordered : Bool) {c : Result Order Refusal} where
+  pub tested_order : {o p : Order} → c ≡ Ok o → o ≡ p
+      → gives (answer less equal greater unordered p) ≡ mapped (answer less equal greater unordered) (outcome_of c)
   tested_order q u = sym (cc (q, u))
 
-  pub tested_refusal : {f : Refusal} → c ≡ compared.Refused f → refusal_of f ≡ mapped (answer less equal greater unordered) (compared_outcome c)
-  tested_refusal q = sym (ap (λ (d : Compared). mapped (answer less equal greater unordered) (compared_outcome d)) q)
+  pub tested_refusal : {f : Refusal} → c ≡ Err f → refusal_of f ≡ mapped (answer less equal greater unordered) (outcome_of c)
+  tested_refusal q = sym (ap (λ (d : Result Order Refusal). mapped (answer less equal greater unordered) (outcome_of d)) q)

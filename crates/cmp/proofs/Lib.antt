@@ -4,6 +4,5 @@ pub mod Answers
 pub mod Given
 pub mod Orders
 pub mod SameNumber
-pub mod Determined
 pub mod OrderKeys
 pub mod ByOrder

@@ -1,5 +1,6 @@
 -- Comparison of two values, its six tests, and the total order. RULES.md: Comparison, Total order, Refusals.
-use Rattle.std.specs.Prelude.{Bool, not, List, [], ◌∷◌, eqb}
+use Rattle.value.specs.declared.Refusal.{Refusal}
+use Rattle.std.specs.Prelude.{Bool, not, List, [], ◌∷◌, eqb, Result, Err, Ok}
 use Rattle.float.specs.declared.Order.{Order}
 use Rattle.float.specs.Order.{order_of, order_z, is_equal, is_not_equal, is_less, is_less_or_equal, is_greater, is_greater_or_equal}
 use Rattle.value.specs.declared.Value.{Value}
@@ -7,19 +8,6 @@ use Rattle.value.specs.Kinds.{kind_of, kind_number}
 use Rattle.value.specs.Meaning.{number_of, position_of}
 use Rattle.value.specs.Outcome.{Outcome, gives, refusal_of, mapped}
 use Rattle.value.specs.Rules.{Rule, rule, chain}
-use Rattle.cmp.specs.declared.Compared.{Compared}
-use Rattle.cmp.specs.declared.Compared.TheVariants as compared
-use Rattle.cmp.specs.declared.Tested.{Tested}
-use Rattle.cmp.specs.declared.Tested.TheVariants as tested
-
--- what the answers say in the words of the rules
-abbrev pub compared_outcome : Compared → Outcome Order
-compared_outcome (compared.Is o) = gives o
-compared_outcome (compared.Refused f) = refusal_of f
-
-abbrev pub tested_outcome : Tested → Outcome Bool
-tested_outcome (tested.Is t) = gives t
-tested_outcome (tested.Refused f) = refusal_of f
 
 -- rule 7 of two values
 abbrev pub kinds_differ : Value → Value → Bool

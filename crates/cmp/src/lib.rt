@@ -8,21 +8,5 @@ mod tests;
 mod total;
 
 pub use comparison::compare;
-use float::Order;
 pub use tests::{eq, ge, gt, le, lt, ne};
 pub use total::total_order;
-use value::Refusal;
-
-// What comparing answers.
-#[derive(Clone, Copy)]
-pub enum Compared {
-    Is(Order),
-    Refused(Refusal),
-}
-
-// What a test answers.
-#[derive(Clone, Copy)]
-pub enum Tested {
-    Is(bool),
-    Refused(Refusal),
-}

@@ -1,21 +1,22 @@
 // The total order of two values. RULES.md: Total order.
+ghost use Rattle.value.specs.Outcome.{outcome_of};
 ghost use Rattle.std.specs.Prelude.{◌≡◌};
-ghost use Rattle.cmp.specs.Compare.{compared_outcome, total_of};
+ghost use Rattle.cmp.specs.Compare.{total_of};
 
+use crate::compare;
 use crate::comparison::kinds_differ;
-use crate::{Compared, compare};
-use float::{order_i64, position_f16, position_f32, position_f64};
-use value::{Value, bits_f32, bits_f64};
+use float::{Order, order_i64, position_f16, position_f32, position_f64};
+use value::{Refusal, Value, bits_f32, bits_f64};
 
-pub fn total_order(a: Value, b: Value) -> Compared
-    ensures { compared_outcome result ≡ total_of a b }
+pub fn total_order(a: Value, b: Value) -> Result<Order, Refusal>
+    ensures { outcome_of result ≡ total_of a b }
 {
     match a {
         Value::F32(x, v) => match b {
             Value::F32(y, w) => {
                 let i = position_f32(bits_f32(x, v));
                 let j = position_f32(bits_f32(y, w));
-                Compared::Is(order_i64(i as i64, j as i64))
+                Ok(order_i64(i as i64, j as i64))
             }
             _ => kinds_differ(),
         },
@@ -23,7 +24,7 @@ pub fn total_order(a: Value, b: Value) -> Compared
             Value::F64(y, w) => {
                 let i = position_f64(bits_f64(x, v));
                 let j = position_f64(bits_f64(y, w));
-                Compared::Is(order_i64(i, j))
+                Ok(order_i64(i, j))
             }
             _ => kinds_differ(),
         },
@@ -31,7 +32,7 @@ pub fn total_order(a: Value, b: Value) -> Compared
             Value::F16(y) => {
                 let i = position_f16(x);
                 let j = position_f16(y);
-                Compared::Is(order_i64(i as i64, j as i64))
+                Ok(order_i64(i as i64, j as i64))
             }
             _ => kinds_differ(),
         },

@@ -12,4 +12,3 @@ pub mod Taken
 pub mod Wholes
 pub mod Holds
 pub mod Puts
-pub mod Determined

@@ -1,4 +1,5 @@
 -- What a target finds and the value that it makes of it are the six rules and the value of the definition.
+use Rattle.std.specs.Prelude.{Result, Err, Ok}
 use mathlib.Core.Path.{◌≡◌, refl, sym, ◌∙◌, ap, subst}
 use mathlib.Core.Bool.{Bool, true, false, not, ◌&&◌, and-true, and-false}
 use Prim.Native.Nat.{ℕ, zero, suc, ◌+◌, ◌-◌, ◌*◌, ◌/◌, ◌%◌, ◌^◌, ◌<◌}
@@ -14,13 +15,12 @@ use Rattle.value.specs.declared.Kind.TheVariants as kind
 use Rattle.value.specs.declared.Value.{Value}
 use Rattle.value.specs.Kinds.{Form, unsigned, signed, floating, form_of}
 use Rattle.value.specs.Meaning.{unit, step_of}
-use Rattle.value.specs.Outcome.{Outcome, gives, refuses, refuse_if, mapped}
+use Rattle.value.specs.declared.Refusal.{Refusal}
+use Rattle.value.specs.Outcome.{Outcome, gives, refuses, refuse_if, refusal_of, outcome_of, mapped}
 use Rattle.value.specs.Rules.{chain}
 use Rattle.value.proofs.Rules.{chain_mapped}
-use Rattle.convert.specs.declared.Fitted.{Fitted}
-use Rattle.convert.specs.declared.Fitted.TheVariants as fitted
 use Rattle.convert.specs.Convert.{encode_of, held_in, is_minus_zero, has_fraction, outside, into_rules, sign_for, magnitude_for, abs_for, made_in}
-use Rattle.convert.specs.Inner.{into_of, fitted_outcome, whole_in, float_in, find_in, FitsIn, make_in}
+use Rattle.convert.specs.Inner.{into_of, whole_in, float_in, find_in, FitsIn, make_in}
 use Rattle.convert.proofs.Accepted.{Accepted, rules_accept, unsigned_fits, signed_fits, abs_small}
 
 -- ---- the number that a form has
@@ -108,20 +108,20 @@ number_fits (unsigned k) x a = unsigned_fits k x a
 number_fits (signed k) x a = signed_fits k x a
 number_fits (floating f) x a = abs_small f x a
 
-module _ (to : Kind) (x : Exact) (w : Fitted) (h : fitted_outcome w ≡ find_in to x) where
-  into : mapped (made to) (fitted_outcome w) ≡ into_of to x
+module _ (to : Kind) (x : Exact) (w : Result (Bool × ℕ) Refusal) (h : outcome_of w ≡ find_in to x) where
+  into : mapped (made to) (outcome_of w) ≡ into_of to x
   into = ap (mapped (made to)) h ∙ into_found to x
 
-  pub put_is : (s : Bool) (n : ℕ) → w ≡ fitted.Is s n → gives (make_in to s n) ≡ into_of to x
-  put_is s n q = sym (ap (λ (v : Fitted). mapped (made to) (fitted_outcome v)) q) ∙ into
+  pub put_is : (s : Bool) (n : ℕ) → w ≡ Ok (s, n) → gives (make_in to s n) ≡ into_of to x
+  put_is s n q = sym (ap (λ (v : Result (Bool × ℕ) Refusal). mapped (made to) (outcome_of v)) q) ∙ into
 
-  pub put_refused : (j : ℕ) → w ≡ fitted.Refused j → refuses j 0 ≡ into_of to x
-  put_refused j q = sym (ap (λ (v : Fitted). mapped (made to) (fitted_outcome v)) q) ∙ into
+  pub put_refused : (j : Refusal) → w ≡ Err j → refusal_of j ≡ into_of to x
+  put_refused j q = sym (ap (λ (v : Result (Bool × ℕ) Refusal). mapped (made to) (outcome_of v)) q) ∙ into
 
   -- what was found fits the kind
-  pub found_fits : (s : Bool) (n : ℕ) → w ≡ fitted.Is s n → FitsIn (form_of to) s n
+  pub found_fits : (s : Bool) (n : ℕ) → w ≡ Ok (s, n) → FitsIn (form_of to) s n
   found_fits s n q =
-      let a = rules_accept (form_of to) x (sign_for x, number_for (form_of to) x) (s, n) (sym (find_rules to x) ∙ sym h ∙ ap fitted_outcome q) in
+      let a = rules_accept (form_of to) x (sign_for x, number_for (form_of to) x) (s, n) (sym (find_rules to x) ∙ sym h ∙ ap outcome_of q) in
       subst (λ (v : Bool × ℕ). FitsIn (form_of to) v.0 v.1) a.1 (number_fits (form_of to) x a.0)
 
 -- in the arm of a kind

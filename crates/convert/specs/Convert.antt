@@ -1,5 +1,6 @@
 -- Exact conversion, all ordered pairs of kinds: six rules in their order, and the value that has the number. RULES.md: Exact conversion.
-use Rattle.std.specs.Prelude.{ℕ, suc, ◌+◌, ◌-◌, ◌*◌, ◌/◌, ◌%◌, ◌^◌, Bool, true, false, not, ◌&&◌, cond, List, [], ◌∷◌, eqb, ltb, ℤ}
+use Rattle.value.specs.declared.Refusal.{Refusal}
+use Rattle.std.specs.Prelude.{ℕ, suc, ◌+◌, ◌-◌, ◌*◌, ◌/◌, ◌%◌, ◌^◌, Bool, true, false, not, ◌&&◌, cond, List, [], ◌∷◌, eqb, ltb, ℤ, Result, Err, Ok}
 use Rattle.std.specs.Float.Ieee.{size}
 use Rattle.float.specs.Format.{Format, f16, f32, f64, fraction_of, sign_in, inf_in, mag_in}
 use Rattle.float.specs.ClassMeaning.{largest_in}
@@ -12,8 +13,6 @@ use Rattle.value.specs.Kinds.{Form, unsigned, signed, floating, form_of, is_inte
 use Rattle.value.specs.Meaning.{exact_of, unit, step_of, f32_value, f64_value}
 use Rattle.value.specs.Outcome.{Outcome, gives, refusal_of}
 use Rattle.value.specs.Rules.{Rule, rule, chain}
-use Rattle.convert.specs.declared.Converted.{Converted}
-use Rattle.convert.specs.declared.Converted.TheVariants as converted
 
 -- ---- a magnitude in a float format, in units of 2^-1074
 
@@ -156,8 +155,3 @@ converted_to v to = cond (own_kind v to) v (made_in to (exact_of v))
 -- the conversion of a value to a kind
 unfoldable pub convert_of : Value → Kind → Outcome Value
 convert_of v to = chain (convert_rules v to) (gives (converted_to v to))
-
--- what the answer says in the words of the rules
-abbrev pub converted_outcome : Converted → Outcome Value
-converted_outcome (converted.To w) = gives w
-converted_outcome (converted.Refused f) = refusal_of f

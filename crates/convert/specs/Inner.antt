@@ -1,6 +1,6 @@
 -- Nothing in this file has to be believed: it says what private functions compute, and no public contract or theorem reaches it.
 -- A magnitude, in units of 2^-1074, is m * 2^g in the code: no machine number holds it as one.
-use Rattle.std.specs.Prelude.{ℕ, suc, ◌+◌, ◌-◌, ◌*◌, ◌/◌, ◌%◌, ◌^◌, ◌<◌, Bool, not, ◌&&◌, cond, eqb, ltb}
+use Rattle.std.specs.Prelude.{ℕ, suc, ◌+◌, ◌-◌, ◌*◌, ◌/◌, ◌%◌, ◌^◌, ◌<◌, Bool, not, ◌&&◌, cond, eqb, ltb, Result, Err, Ok}
 use Rattle.std.specs.Int.Signed.{mag}
 use Rattle.float.specs.Format.{f16, f32, f64, mag_of, sign_in}
 use Rattle.float.specs.Number.{Exact, not_number, infinite, finite, signed_of}
@@ -12,11 +12,9 @@ use Rattle.value.specs.Meaning.{unit, f32_value, f64_value}
 use Rattle.value.specs.Outcome.{Outcome, gives, refuses, refuse_if}
 use Rattle.convert.specs.Convert.{encode_at, outside, with_sign, into_rules, made_in}
 use Rattle.convert.specs.declared.Parts.{Parts}
-use Rattle.convert.specs.declared.Fitted.{Fitted}
 use Rattle.value.specs.Rules.{chain}
 use Rattle.value.specs.declared.Kind.TheVariants as kind
 use Rattle.convert.specs.declared.Parts.TheVariants as parts
-use Rattle.convert.specs.declared.Fitted.TheVariants as fitted
 
 -- what the parts of a value mean
 abbrev pub meaning : Parts → Exact
@@ -27,11 +25,6 @@ meaning (parts.Finite s m g) = finite s (m * 2 ^ g)
 -- a pattern by its sign and its abs; i is the abs of the infinity
 abbrev pub pattern_at : ℕ → ℕ → Bool → ℕ → Exact
 pattern_at p i s a = cond (ltb i a) not_number (cond (eqb a i) (infinite s) (finite s (mag_of p a)))
-
--- what a target finds: a sign and a whole number, or the number of a refusal
-abbrev pub fitted_outcome : Fitted → Outcome (Bool × ℕ)
-fitted_outcome (fitted.Is s n) = gives (s, n)
-fitted_outcome (fitted.Refused k) = refuses k 0
 
 -- an integer kind whose numbers go from -low to high: the sign and the magnitude
 abbrev pub whole_at : ℕ → ℕ → Bool → ℕ → Outcome (Bool × ℕ)

@@ -1,22 +1,21 @@
 // f16 to f32: a magnitude with exponent field 0 is looked up. RULES.md: Exact conversion.
+ghost use Rattle.value.specs.Outcome.{outcome_of};
 ghost use Rattle.std.specs.Prelude.{◌≡◌};
 ghost use Rattle.value.specs.Meaning.{exact_of};
-ghost use Rattle.convert.specs.Convert.{converted_outcome};
 ghost use Rattle.convert.specs.Inner.{into_of};
 
-use crate::Converted;
 use crate::sources::parts_of;
 use crate::targets::{put, with_sign};
-use value::{Kind, Value};
+use value::{Kind, Refusal, Value};
 
-pub(crate) fn half_to_f32(b: u16) -> Converted
-    ensures { converted_outcome result ≡ into_of Kind.F32 (exact_of (Value.F16 b)) }
+pub(crate) fn half_to_f32(b: u16) -> Result<Value, Refusal>
+    ensures { outcome_of result ≡ into_of Kind.F32 (exact_of (Value.F16 b)) }
 {
     let a = float::abs_f16(b);
     if a < 0x0400 {
         let bits = half::small_f32(a);
         let s = float::is_sign_negative_f16(b);
-        Converted::To(value::f32_value(with_sign(s, bits as u64, 0x8000_0000) as u32))
+        Ok(value::f32_value(with_sign(s, bits as u64, 0x8000_0000) as u32))
     } else {
         put(parts_of(Value::F16(b)), Kind::F32)
     }

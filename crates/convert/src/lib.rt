@@ -8,20 +8,14 @@ mod halves;
 mod sources;
 mod targets;
 
+ghost use Rattle.value.specs.Outcome.{outcome_of};
 ghost use Rattle.std.specs.Prelude.{◌≡◌};
-ghost use Rattle.convert.specs.Convert.{convert_of, converted_outcome};
+ghost use Rattle.convert.specs.Convert.{convert_of};
 
 use halves::half_to_f32;
 use sources::parts_of;
 use targets::put;
 use value::{Kind, Refusal, Value};
-
-// What conversion answers.
-#[derive(Clone, Copy)]
-pub enum Converted {
-    To(Value),
-    Refused(Refusal),
-}
 
 // What a value stands for: no number, an infinity with its sign, or a sign and m * 2^g in units of 2^-1074.
 #[derive(Clone, Copy)]
@@ -29,13 +23,6 @@ pub enum Parts {
     NotANumber,
     Infinite(bool),
     Finite(bool, u64, u16),
-}
-
-// A sign and a number that the target has, or the number of the rule that refused.
-#[derive(Clone, Copy)]
-pub enum Fitted {
-    Is(bool, u64),
-    Refused(u8),
 }
 
 // The quotient of a division, and whether something is left.
@@ -46,11 +33,11 @@ pub struct Ratio {
 }
 
 // The value itself for its own kind, else the value of the other kind with the same number.
-pub fn convert(v: Value, to: Kind) -> Converted
-    ensures { converted_outcome result ≡ convert_of v to }
+pub fn convert(v: Value, to: Kind) -> Result<Value, Refusal>
+    ensures { outcome_of result ≡ convert_of v to }
 {
     if value::kind_number(value::kind_of(v)) == value::kind_number(to) {
-        return Converted::To(v);
+        return Ok(v);
     }
     match v {
         Value::F16(b) => match to {

@@ -2,94 +2,118 @@
 ghost use Rattle.std.specs.Prelude.{◌≡◌, cond, ◌+◌, ◌*◌, ◌^◌, ◌≤◌, ◌<◌};
 ghost use Rattle.std.specs.Int.Signed.{mag};
 ghost use Rattle.float.specs.Number.{signed_of};
-ghost use Rattle.value.specs.Outcome.{refuses};
-ghost use Rattle.convert.specs.Convert.{converted_outcome};
-ghost use Rattle.convert.specs.Inner.{into_of, meaning, fitted_outcome, whole_at, whole_in, float_at, float_in, find_in, FitsIn, make_in};
+ghost use Rattle.value.specs.Outcome.{refuses, outcome_of};
+ghost use Rattle.convert.specs.Inner.{into_of, meaning, whole_at, whole_in, float_at, float_in, find_in, FitsIn, make_in};
 ghost use Rattle.value.specs.Kinds.{form_of};
 
+use crate::Parts;
 use crate::digits::{over, size_of};
-use crate::{Converted, Fitted, Parts};
 use value::{Kind, Refusal, Value};
 
+// The rules that refuse a conversion.
+const NO_NUMBER: Refusal = Refusal {
+    number: 1,
+    place: 0,
+};
+
+const INFINITE: Refusal = Refusal {
+    number: 2,
+    place: 0,
+};
+
+const FRACTION: Refusal = Refusal {
+    number: 3,
+    place: 0,
+};
+
+const OUT_OF_RANGE: Refusal = Refusal {
+    number: 4,
+    place: 0,
+};
+
+const NOT_HELD: Refusal = Refusal {
+    number: 5,
+    place: 0,
+};
+
+const MINUS_ZERO: Refusal = Refusal {
+    number: 13,
+    place: 0,
+};
+
 // A finite number, m * 2^g units, as a whole number from -low to high; minus zero is none. From 2^64 on there is no fraction left.
-fn whole(s: bool, m: u64, g: u16, low: u64, high: u64) -> Fitted
-    ensures { fitted_outcome result ≡ whole_at low high s (m * 2 ^ g) }
+fn whole(s: bool, m: u64, g: u16, low: u64, high: u64) -> Result<(bool, u64), Refusal>
+    ensures { outcome_of result ≡ whole_at low high s (m * 2 ^ g) }
 {
     if m == 0 {
         if s {
-            return Fitted::Refused(13);
+            return Err(MINUS_ZERO);
         }
-        return Fitted::Is(false, 0);
+        return Ok((false, 0));
     }
     if size_of(m) as u64 + g as u64 > 1138 {
-        return Fitted::Refused(4);
+        return Err(OUT_OF_RANGE);
     }
     let ratio = over(m, g as u64, 1074);
     if ratio.rest {
-        return Fitted::Refused(3);
+        return Err(FRACTION);
     }
     let limit = if s { low } else { high };
     if ratio.quotient > limit {
-        return Fitted::Refused(4);
+        return Err(OUT_OF_RANGE);
     }
-    Fitted::Is(s, ratio.quotient)
+    Ok((s, ratio.quotient))
 }
 
-fn whole_in(x: Parts, low: u64, high: u64) -> Fitted
-    ensures { fitted_outcome result ≡ whole_in low high (meaning x) }
+fn whole_in(x: Parts, low: u64, high: u64) -> Result<(bool, u64), Refusal>
+    ensures { outcome_of result ≡ whole_in low high (meaning x) }
 {
     match x {
-        Parts::NotANumber => Fitted::Refused(1),
-        Parts::Infinite(_) => Fitted::Refused(2),
+        Parts::NotANumber => Err(NO_NUMBER),
+        Parts::Infinite(_) => Err(INFINITE),
         Parts::Finite(s, m, g) => whole(s, m, g, low, high),
     }
 }
 
 // A finite number in a float format: its leading p + 1 digits are kept, and those below have to be 0. Field k + 1 is the exponent's.
 #[tactic(auto, using(crate::proofs::Holds::far_refused, crate::proofs::Holds::low_refused))]
-fn held(s: bool, m: u64, g: u16, p: u16, c: u16, last: u16) -> Fitted
+fn held(s: bool, m: u64, g: u16, p: u16, c: u16, last: u16) -> Result<(bool, u64), Refusal>
     requires { (p ≤ 52) × (last ≤ 2045) }
-    ensures { fitted_outcome result ≡ float_at p (2 ^ c) last s (m * 2 ^ g) }
+    ensures { outcome_of result ≡ float_at p (2 ^ c) last s (m * 2 ^ g) }
 {
     if m == 0 {
-        return Fitted::Is(s, 0);
+        return Ok((s, 0));
     }
     let digits = size_of(m) as u64 + g as u64;
     let kept = p as u64 + 1 + c as u64;
     let k = if digits > kept { digits - kept } else { 0 };
     if k > last as u64 {
-        return Fitted::Refused(4);
+        return Err(OUT_OF_RANGE);
     }
     let ratio = over(m, g as u64, k + c as u64);
     if ratio.rest {
         if k == last as u64 {
             if ratio.quotient == (2u64 << p) - 1 {
-                return Fitted::Refused(4);
+                return Err(OUT_OF_RANGE);
             }
         }
-        return Fitted::Refused(5);
+        return Err(NOT_HELD);
     }
-    Fitted::Is(s, (k << p) + ratio.quotient)
+    Ok((s, (k << p) + ratio.quotient))
 }
 
-fn float_in(x: Parts, p: u16, c: u16, last: u16) -> Fitted
+fn float_in(x: Parts, p: u16, c: u16, last: u16) -> Result<(bool, u64), Refusal>
     requires { (p ≤ 52) × (last ≤ 2045) }
-    ensures { fitted_outcome result ≡ float_in p (2 ^ c) last (meaning x) }
+    ensures { outcome_of result ≡ float_in p (2 ^ c) last (meaning x) }
 {
     match x {
-        Parts::NotANumber => Fitted::Refused(1),
-        Parts::Infinite(s) => Fitted::Is(s, (last as u64 + 2) << p),
+        Parts::NotANumber => Err(NO_NUMBER),
+        Parts::Infinite(s) => Ok((s, (last as u64 + 2) << p)),
         Parts::Finite(s, m, g) => held(s, m, g, p, c, last),
     }
 }
 
 // ---- the value
-
-fn refused(number: u8) -> Converted
-    ensures { converted_outcome result ≡ refuses number 0 }
-{
-    Converted::Refused(Refusal { number, place: 0 })
-}
 
 fn signed(s: bool, n: u64) -> i64
     requires { mag (signed_of s n) < 2 ^ 63 }
@@ -110,8 +134,8 @@ pub(crate) fn with_sign(s: bool, a: u64, sign: u64) -> u64
 }
 
 // What the target kind finds: a whole number in its range, or the abs of its format.
-fn find(x: Parts, to: Kind) -> Fitted
-    ensures { fitted_outcome result ≡ find_in to (meaning x) }
+fn find(x: Parts, to: Kind) -> Result<(bool, u64), Refusal>
+    ensures { outcome_of result ≡ find_in to (meaning x) }
 {
     match to {
         Kind::U8 => whole_in(x, 0, 0xff),
@@ -148,12 +172,9 @@ fn make(to: Kind, s: bool, n: u64) -> Value
     }
 }
 
-pub(crate) fn put(x: Parts, to: Kind) -> Converted
-    ensures { converted_outcome result ≡ into_of to (meaning x) }
+pub(crate) fn put(x: Parts, to: Kind) -> Result<Value, Refusal>
+    ensures { outcome_of result ≡ into_of to (meaning x) }
 {
-    let w = find(x, to);
-    match w {
-        Fitted::Is(s, n) => Converted::To(make(to, s, n)),
-        Fitted::Refused(k) => refused(k),
-    }
+    let (s, n) = find(x, to)?;
+    Ok(make(to, s, n))
 }

@@ -6,18 +6,13 @@ use native.Mathlib.Omega.{arith}
 use lib.ListN.{length, get_or}
 use Rattle.float.proofs.Magnitude.{mag_injective}
 use Rattle.half.specs.Small.{IsOver, Small}
-use Rattle.value.specs.Outcome.{Outcome}
-use Rattle.cmp.specs.Compare.{compared_outcome, tested_outcome}
-use Rattle.choose.specs.Choose.{chosen_outcome, ranged_outcome, sampled_outcome}
+use Rattle.value.specs.Outcome.{Outcome, outcome_of}
 use Rattle.cmp.proofs.Determined.{compared_injective, tested_injective}
 use Rattle.choose.proofs.Determined.{chosen_injective, ranged_injective, sampled_injective}
-use Rattle.convert.specs.Convert.{converted_outcome}
 use Rattle.convert.proofs.Determined.{converted_injective}
 use Rattle.row.specs.Row.{rowed_outcome}
 use Rattle.row.proofs.Determined.{rowed_injective}
-use Rattle.record.specs.Record.{held_outcome}
 use Rattle.record.proofs.Determined.{held_injective}
-use Rattle.key.specs.Key.{written_outcome}
 use Rattle.key.proofs.Determined.{written_injective}
 use Rattle.demands.specs.Determined.{OnlyOne, Determined}
 
@@ -54,15 +49,15 @@ one_table t u h k =
 pub determined : Determined
 determined = record {
   plain = λ spec r s h k. h ∙ sym k;
-  compared = by_outcome compared_outcome compared_injective;
-  tested = by_outcome tested_outcome tested_injective;
-  chosen = by_outcome chosen_outcome chosen_injective;
-  ranged = by_outcome ranged_outcome ranged_injective;
-  sampled = by_outcome sampled_outcome sampled_injective;
-  converted = by_outcome converted_outcome converted_injective;
-  held = by_outcome held_outcome held_injective;
+  compared = by_outcome outcome_of compared_injective;
+  tested = by_outcome outcome_of tested_injective;
+  chosen = by_outcome outcome_of chosen_injective;
+  ranged = by_outcome outcome_of ranged_injective;
+  sampled = by_outcome outcome_of sampled_injective;
+  converted = by_outcome outcome_of converted_injective;
+  held = by_outcome outcome_of held_injective;
   entry = one_entry;
   table = one_table;
   rowed = λ spec exit. with_buffer rowed_outcome rowed_injective spec exit;
-  written = λ spec exit. with_buffer written_outcome written_injective spec exit;
+  written = λ spec exit. with_buffer outcome_of written_injective spec exit;
 }

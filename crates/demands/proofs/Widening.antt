@@ -1,5 +1,6 @@
 -- A kind widens another exactly when it holds all its numbers. Where the table says yes, a conversion gives each number;
 -- where it says no, one value of the kind, the same for all others, is refused: this is computed for all pairs of kinds.
+use Rattle.std.specs.Prelude.{Some}
 use mathlib.Core.Path.{◌≡◌, sym, ◌∙◌, ap, subst}
 use mathlib.Core.Bool.{Bool, true, false, not, ◌&&◌, ◌||◌, or-false}
 use mathlib.Core.Logic.{◌⊎◌, inl, inr, ◌↔◌}
@@ -18,7 +19,6 @@ use Rattle.float.specs.Order.{pattern_of}
 use Rattle.float.proofs.Naturals.{three_ways}
 use Rattle.float.proofs.Tests.{clash, neither}
 use Rattle.value.specs.declared.Kind.{Kind}
-use Rattle.value.specs.declared.KindFound.TheVariants.{Is}
 use Rattle.value.specs.declared.Value.{Value}
 use Rattle.value.specs.Kinds.{kind_of, kind_number, all_kinds, kind_in, Form, unsigned, signed, floating, form_of, is_integer}
 use Rattle.value.specs.Meaning.{exact_of, number_of, value_of, float_bits, unit, step_of}
@@ -62,7 +62,7 @@ abbrev every : (Kind → Bool) → List Kind → Bool
 every p [] = true
 every p (k ∷ ks) = p k && every p ks
 
-in_list : (p : Kind → Bool) (ks : List Kind) (n : ℕ) (k : Kind) → T (every p ks) → kind_in ks n ≡ Is k → T (p k)
+in_list : (p : Kind → Bool) (ks : List Kind) (n : ℕ) (k : Kind) → T (every p ks) → kind_in ks n ≡ Some k → T (p k)
 in_list p [] n k t q = clash cc
 in_list p (j ∷ ks) zero k t q = let same : j ≡ k = cc in subst (λ (i : Kind). T (p i)) same (and_l (p j) (every p ks) t)
 in_list p (j ∷ ks) (suc n) k t q = in_list p ks n k (and_r (p j) (every p ks) t) q

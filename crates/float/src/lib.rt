@@ -18,7 +18,7 @@ pub use orders::{compare_f16, compare_f32, compare_f64, order_i64, order_u64};
 pub use positions::{position_f16, position_f32, position_f64};
 
 // The class of a pattern.
-#[derive(Clone, Copy)]
+#[derive(Clone, Copy, Debug, PartialEq, Eq)]
 pub enum Class {
     Zero,
     Subnormal,
@@ -28,7 +28,7 @@ pub enum Class {
 }
 
 // What a comparison answers.
-#[derive(Clone, Copy)]
+#[derive(Clone, Copy, Debug, PartialEq, Eq)]
 pub enum Order {
     Less,
     Equal,

@@ -1,4 +1,6 @@
 -- The passes over a record's fields: the bytes of their keys counted, the first NaN looked for, their keys laid down; and what writing then answers.
+use Rattle.value.specs.declared.Refusal.{Refusal}
+use Rattle.std.specs.Prelude.{Result, Err, Ok}
 use mathlib.Core.Path.{◌≡◌, refl, sym, ◌∙◌, ap}
 use mathlib.Core.Bool.{Bool, true, false}
 use mathlib.Core.List.{List, [], ◌∷◌, ◌++◌, append_assoc, append-nil}
@@ -15,15 +17,13 @@ use Rattle.value.specs.declared.Kind.{Kind}
 use Rattle.value.specs.declared.Value.{Value}
 use Rattle.value.specs.Kinds.{kind_of, bytes_of}
 use Rattle.value.specs.Meaning.{exact_of}
-use Rattle.value.specs.Outcome.{gives, refuses, refuse_if}
+use Rattle.value.specs.Outcome.{gives, refuses, refuse_if, outcome_of}
 use Rattle.value.specs.Rules.{chain, each_of}
 use Rattle.record.specs.declared.Field.{Field}
 use Rattle.record.specs.declared.Record.{Record}
 use Rattle.record.specs.Record.{fields_of, bad_count}
-use Rattle.key.specs.declared.Written.{Written}
-use Rattle.key.specs.declared.Written.TheVariants as written
 use Rattle.bytewise.specs.Numbers.{big_endian}
-use Rattle.key.specs.Key.{key_number, field_key, key_of, nan_rules, written_outcome, write_of, write_exit}
+use Rattle.key.specs.Key.{key_number, field_key, key_of, nan_rules, write_of, write_exit}
 use Rattle.key.specs.Inner.{put, FirstNan}
 use Rattle.bytewise.proofs.BigEndian.{length_big}
 use Rattle.key.proofs.NumberBytes.{length_put, put_nil, put_put}
@@ -165,17 +165,17 @@ module _ (r : Record) (few : r.count ≤ 12) (twelve : length r.fields ≡ 12) w
 -- ---- what writing answers, and what the buffer then holds
 
 module _ (r : Record) (old : List ℕ) where
-  abbrev Answers : Written → List ℕ → Type 0
-  Answers w now = (written_outcome w ≡ write_of r (length old)) × (now ≡ write_exit r old)
+  abbrev Answers : Result ℕ Refusal → List ℕ → Type 0
+  Answers w now = (outcome_of w ≡ write_of r (length old)) × (now ≡ write_exit r old)
 
-  abbrev Refuses : Written → ℕ → ℕ → Type 0
-  Refuses w number place = w ≡ written.Refused (record { number = number; place = place })
+  abbrev Refuses : Result ℕ Refusal → ℕ → ℕ → Type 0
+  Refuses w number place = w ≡ Err (record { number = number; place = place })
 
-  refused_answers : {w : Written} (m p : ℕ) → Refuses w m p → refuses m p ≡ write_of r (length old) → Answers w old
+  refused_answers : {w : Result ℕ Refusal} (m p : ℕ) → Refuses w m p → refuses m p ≡ write_of r (length old) → Answers w old
   unfolding write_exit
-  refused_answers m p e q = (ap written_outcome e ∙ q, rw (← q))
+  refused_answers m p e q = (ap outcome_of e ∙ q, rw (← q))
 
-  pub write_bad_count : {t : Bool} → t ≡ bad_count r.count → t ≡ true → {w : Written} → Refuses w 11 0 → Answers w old
+  pub write_bad_count : {t : Bool} → t ≡ bad_count r.count → t ≡ true → {w : Result ℕ Refusal} → Refuses w 11 0 → Answers w old
   unfolding write_of
   write_bad_count q f e = refused_answers 11 0 e (rw (← q, f))
 
@@ -184,17 +184,17 @@ module _ (r : Record) (old : List ℕ) where
     unfolding write_of
     past_count = rw (← count_is, count_good, n-is)
 
-    pub write_short : length old < n → {w : Written} → Refuses w 10 0 → Answers w old
+    pub write_short : length old < n → {w : Result ℕ Refusal} → Refuses w 10 0 → Answers w old
     write_short h e = refused_answers 10 0 e (sym (rw (lt-ltb (length old) n h)) ∙ past_count)
 
     module _ (room : n ≤ length old) (at : ℕ) (first : FirstNan r at) where
       past_room : refuse_if (ltb at r.count) 1 at (gives n) ≡ write_of r (length old)
       past_room = sym (first n) ∙ sym (rw (le-ltb (length old) n room)) ∙ past_count
 
-      pub write_nan : at < r.count → {w : Written} → Refuses w 1 at → Answers w old
+      pub write_nan : at < r.count → {w : Result ℕ Refusal} → Refuses w 1 at → Answers w old
       write_nan h e = refused_answers 1 at e (sym (rw (lt-ltb at r.count h)) ∙ past_room)
 
-      pub write_done : r.count ≤ at → {now : List ℕ} → now ≡ put 0 (key_of (fields_of r)) old → Answers (written.Length n) now
+      pub write_done : r.count ≤ at → {now : List ℕ} → now ≡ put 0 (key_of (fields_of r)) old → Answers (Ok n) now
       unfolding write_exit put
       write_done h q =
           let a : gives n ≡ write_of r (length old) = sym (rw (le-ltb at r.count h)) ∙ past_room in

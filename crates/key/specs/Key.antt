@@ -1,5 +1,6 @@
 -- The key of a record: written, and read back. RULES.md: Keys, Refusals.
-use Rattle.std.specs.Prelude.{ℕ, suc, ◌+◌, ◌-◌, ◌*◌, ◌%◌, ◌^◌, Bool, false, not, ◌||◌, cond, List, [], ◌∷◌, ◌++◌, map, eqb, ltb, leb, length, take}
+use Rattle.value.specs.declared.Refusal.{Refusal}
+use Rattle.std.specs.Prelude.{ℕ, suc, ◌+◌, ◌-◌, ◌*◌, ◌%◌, ◌^◌, Bool, false, not, ◌||◌, cond, List, [], ◌∷◌, ◌++◌, map, eqb, ltb, leb, length, take, Result, Err, Ok}
 use Rattle.std.specs.Prelude.{drop, ℤ, pos, negsuc}
 use Rattle.float.specs.Format.{sign_in, nan_in}
 use Rattle.float.specs.Number.{is_none}
@@ -14,8 +15,6 @@ use Rattle.record.specs.declared.Record.{Record}
 use Rattle.record.specs.declared.Shape.{Shape}
 use Rattle.record.specs.Record.{field_for, fields_of, bad_count, kinds_in, record_of}
 use Rattle.bytewise.specs.Numbers.{big_endian, from_big_endian}
-use Rattle.key.specs.declared.Written.{Written}
-use Rattle.key.specs.declared.Written.TheVariants as written
 
 -- ---- the number of a field's key
 
@@ -53,11 +52,6 @@ key_of [] = []
 key_of (f ∷ fs) = field_key f.value ++ key_of fs
 
 -- ---- writing
-
--- what the answer says in the words of the rules
-abbrev pub written_outcome : Written → Outcome ℕ
-written_outcome (written.Length n) = gives n
-written_outcome (written.Refused f) = refusal_of f
 
 -- 1 for a field that is a NaN; `at` is the index of the first
 abbrev pub nan_rules : ℕ → List Field → List Rule

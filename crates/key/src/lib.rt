@@ -9,13 +9,6 @@ pub use reading::read;
 use value::Refusal;
 pub use writing::write;
 
-// What writing a key answers: its length.
-#[derive(Clone, Copy)]
-pub enum Written {
-    Length(usize),
-    Refused(Refusal),
-}
-
 // How a kind's bits are turned into a key and back: the weight of the sign bit, and of a float the bits of plus infinity.
 #[derive(Clone, Copy)]
 enum Weights {

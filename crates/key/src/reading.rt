@@ -5,7 +5,7 @@ ghost use Rattle.bytewise.specs.Numbers.{from_big_endian};
 ghost use Rattle.key.specs.Key.{bytes_in, read_of};
 
 use crate::numbers::{bits_in, foreign_in, weights_of};
-use record::{Field, Made, Recorded, Shape, bad_count, blank, refused};
+use record::{Field, Recorded, Shape, bad_count, blank, refused};
 use value::bytes_of;
 
 // How many bytes the keys of a shape have.
@@ -74,7 +74,7 @@ pub fn read(shape: Shape, key: &[u8]) -> Recorded
         at += 1;
     }
     Recorded {
-        outcome: Made::Done,
+        outcome: Ok(()),
         record: made,
     }
 }

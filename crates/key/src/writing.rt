@@ -1,13 +1,13 @@
 // Writing the key of a record into a lent buffer: two looking passes, for the length and for a NaN, come before the pass that writes. RULES.md: Keys.
+ghost use Rattle.value.specs.Outcome.{outcome_of};
 ghost use Rattle.std.specs.Prelude.{◌≡◌, ◌+◌, ◌≤◌, length};
 ghost use Rattle.float.specs.Number.{is_none};
 ghost use Rattle.value.specs.Meaning.{exact_of};
 ghost use Rattle.record.specs.Record.{fields_of};
 ghost use Rattle.bytewise.specs.Numbers.{big_endian};
-ghost use Rattle.key.specs.Key.{key_of, written_outcome, write_of, write_exit};
+ghost use Rattle.key.specs.Key.{key_of, write_of, write_exit};
 ghost use Rattle.key.specs.Inner.{put, FirstNan};
 
-use crate::Written;
 use crate::numbers::{nan_in, number_of, weights_of};
 use record::{Record, bad_count};
 use value::{Refusal, Value, bytes_of};
@@ -83,17 +83,17 @@ fn write_fields(r: Record, buffer: &mut [u8])
     }
 }
 
-fn refused(number: u8, place: usize) -> Written
-    ensures { result ≡ Written.Refused (record { number = number; place = place }) }
+fn refused(number: u8, place: usize) -> Result<usize, Refusal>
+    ensures { result ≡ Err (record { number = number; place = place }) }
 {
-    Written::Refused(Refusal {
+    Err(Refusal {
         number: number,
         place: place,
     })
 }
 
-pub fn write(r: Record, buffer: &mut [u8]) -> Written
-    ensures answer { written_outcome result ≡ write_of r (length buffer.old) }
+pub fn write(r: Record, buffer: &mut [u8]) -> Result<usize, Refusal>
+    ensures answer { outcome_of result ≡ write_of r (length buffer.old) }
     ensures exit { buffer.new ≡ write_exit r buffer.old }
 {
     let count = r.count;
@@ -109,5 +109,5 @@ pub fn write(r: Record, buffer: &mut [u8]) -> Written
         return refused(1, at);
     }
     write_fields(r, buffer);
-    Written::Length(n)
+    Ok(n)
 }

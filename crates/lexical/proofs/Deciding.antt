@@ -1,11 +1,12 @@
 -- The comparison and the choice, from the decision that they share.
+use Rattle.std.specs.Prelude.{Result, Err, Ok}
 use Prim.Native.Nat.{ℕ, ◌≤◌}
 use mathlib.Core.Path.{◌≡◌, sym, ◌∙◌, ap}
 use mathlib.Core.Bool.{Bool, true, false, ◌||◌}
 use native.Mathlib.Nat.{zero-add}
 use Rattle.float.specs.declared.Order.{Order}
 use Rattle.float.proofs.Tests.{neither}
-use Rattle.value.specs.Outcome.{Outcome, gives, refuses, refusal_of, and_then}
+use Rattle.value.specs.Outcome.{Outcome, gives, refuses, refusal_of, and_then, outcome_of}
 use Rattle.value.specs.Rules.{chain}
 use Rattle.value.proofs.Rules.{chain_then}
 use Rattle.value.specs.declared.Refusal.{Refusal}
@@ -13,20 +14,18 @@ use Rattle.cmp.specs.Inner.{chosen_by}
 use Rattle.record.proofs.Twelve.{good_count}
 use Rattle.record.specs.declared.Record.{Record}
 use Rattle.lexical.specs.declared.comparisons.Decision.{Decision}
-use Rattle.lexical.specs.declared.comparisons.Decided.{Decided}
-use Rattle.lexical.specs.declared.comparisons.Decided.TheVariants as decided
 use Rattle.record.specs.Record.{fields_of, bad_count}
 use Rattle.lexical.specs.Lexical.{shapes_differ, lexical_of, deciding_of, record_rules, compare_of, min_of, max_of}
-use Rattle.lexical.specs.Inner.{decided_outcome, decision_from, decide_of, chosen_from}
+use Rattle.lexical.specs.Inner.{decision_from, decide_of, chosen_from}
 
 -- ---- after a decision
 
-module _ {B : Type 0} {d : Decided} where
-  pub then_decision : (next : Decision → Outcome B) {x : Decision} {r : Outcome B} → d ≡ decided.Is x → r ≡ next x → r ≡ and_then (decided_outcome d) next
-  then_decision next q h = h ∙ sym (ap (λ (e : Decided). and_then (decided_outcome e) next) q)
+module _ {B : Type 0} {d : Result Decision Refusal} where
+  pub then_decision : (next : Decision → Outcome B) {x : Decision} {r : Outcome B} → d ≡ Ok x → r ≡ next x → r ≡ and_then (outcome_of d) next
+  then_decision next q h = h ∙ sym (ap (λ (e : Result Decision Refusal). and_then (outcome_of e) next) q)
 
-  pub then_refusal : (next : Decision → Outcome B) {f : Refusal} → d ≡ decided.Refused f → refusal_of f ≡ and_then (decided_outcome d) next
-  then_refusal next q = sym (ap (λ (e : Decided). and_then (decided_outcome e) next) q)
+  pub then_refusal : (next : Decision → Outcome B) {f : Refusal} → d ≡ Err f → refusal_of f ≡ and_then (outcome_of d) next
+  then_refusal next q = sym (ap (λ (e : Result Decision Refusal). and_then (outcome_of e) next) q)
 
 -- ---- the decision by the tests of rules 11 and 7
 

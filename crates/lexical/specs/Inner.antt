@@ -1,20 +1,15 @@
 -- Nothing in this file has to be believed: it says what private functions compute, and no public contract or theorem reaches it.
 -- How two records compare, together with the index of the field that decides: what the comparison and the choice share.
-use Rattle.std.specs.Prelude.{ℕ, ◌+◌, List}
+use Rattle.value.specs.declared.Refusal.{Refusal}
+use Rattle.std.specs.Prelude.{ℕ, ◌+◌, List, Result, Err, Ok}
 use Rattle.value.specs.Outcome.{Outcome, gives, refusal_of}
 use Rattle.value.specs.Rules.{chain}
 use Rattle.cmp.specs.Inner.{chosen_by}
 use Rattle.record.specs.declared.Field.{Field}
 use Rattle.record.specs.declared.Record.{Record}
 use Rattle.lexical.specs.declared.comparisons.Decision.{Decision}
-use Rattle.lexical.specs.declared.comparisons.Decided.{Decided}
-use Rattle.lexical.specs.declared.comparisons.Decided.TheVariants as decided
 use Rattle.record.specs.Record.{fields_of}
 use Rattle.lexical.specs.Lexical.{lexical_of, deciding_of, record_rules}
-
-abbrev pub decided_outcome : Decided → Outcome Decision
-decided_outcome (decided.Is d) = gives d
-decided_outcome (decided.Refused f) = refusal_of f
 
 -- of the fields from a place on
 abbrev pub decision_from : ℕ → List Field → List Field → Decision

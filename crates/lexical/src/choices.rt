@@ -1,34 +1,35 @@
 // The lower and the higher of two records. RULES.md: Records.
 ghost use Rattle.std.specs.Prelude.{◌≡◌};
-ghost use Rattle.value.specs.Outcome.{and_then};
+ghost use Rattle.value.specs.Outcome.{and_then, outcome_of};
 ghost use Rattle.record.specs.Record.{recorded_of};
 ghost use Rattle.lexical.specs.Lexical.{min_of, max_of};
-ghost use Rattle.lexical.specs.Inner.{decided_outcome, chosen_from};
+ghost use Rattle.lexical.specs.Inner.{chosen_from};
 
-use crate::comparisons::{Decided, decide};
+use crate::comparisons::{Decision, decide};
 use float::Order;
-use record::{Made, Record, Recorded, refused};
+use record::{Record, Recorded, refused};
+use value::Refusal;
 
 // The other one when the order is Greater, else the first.
-fn chosen_by(d: Decided, one: Record, other: Record) -> Recorded
-    ensures { result ≡ recorded_of (and_then (decided_outcome d) (chosen_from one other)) }
+fn chosen_by(d: Result<Decision, Refusal>, one: Record, other: Record) -> Recorded
+    ensures { result ≡ recorded_of (and_then (outcome_of d) (chosen_from one other)) }
 {
     match d {
-        Decided::Is(x) => {
+        Ok(x) => {
             let o = x.order;
             match o {
                 Order::Unordered => refused(8, x.at),
                 Order::Greater => Recorded {
-                    outcome: Made::Done,
+                    outcome: Ok(()),
                     record: other,
                 },
                 _ => Recorded {
-                    outcome: Made::Done,
+                    outcome: Ok(()),
                     record: one,
                 },
             }
         }
-        Decided::Refused(f) => refused(f.number, f.place),
+        Err(f) => refused(f.number, f.place),
     }
 }
 

@@ -1,12 +1,12 @@
 // The comparison of two records, field by field. RULES.md: Records.
+ghost use Rattle.value.specs.Outcome.{outcome_of};
 ghost use Rattle.std.specs.Prelude.{◌≡◌, false, ◌+◌, ◌≤◌, ◌<◌, take, drop};
-ghost use Rattle.cmp.specs.Compare.{compared_outcome, kinds_differ, value_order};
+ghost use Rattle.cmp.specs.Compare.{kinds_differ, value_order};
 ghost use Rattle.record.specs.Record.{value_at};
 ghost use Rattle.lexical.specs.Lexical.{shapes_differ, compare_of};
-ghost use Rattle.lexical.specs.Inner.{decided_outcome, decision_from, decide_of};
+ghost use Rattle.lexical.specs.Inner.{decision_from, decide_of};
 
 use crate::shapes::{bad_counts, shapes_differ};
-use cmp::Compared;
 use float::Order;
 use record::Record;
 use value::Refusal;
@@ -16,12 +16,6 @@ use value::Refusal;
 pub(crate) struct Decision {
     pub order: Order,
     pub at: usize,
-}
-
-#[derive(Clone, Copy)]
-pub(crate) enum Decided {
-    Is(Decision),
-    Refused(Refusal),
 }
 
 // The order of the values in a place, which are of one kind and so never refused.
@@ -34,8 +28,8 @@ fn order_at(a: Record, b: Record, at: usize) -> Order
     let v = x.value;
     let w = y.value;
     match cmp::compare(v, w) {
-        Compared::Is(o) => o,
-        Compared::Refused(_) => Order::Unordered,
+        Ok(o) => o,
+        Err(_) => Order::Unordered,
     }
 }
 
@@ -58,32 +52,27 @@ fn compare_from(a: Record, b: Record, at: usize, left: usize) -> Decision
 }
 
 // Rules 11 and 7, then the comparison.
-pub(crate) fn decide(a: Record, b: Record) -> Decided
-    ensures { decided_outcome result ≡ decide_of a b }
+pub(crate) fn decide(a: Record, b: Record) -> Result<Decision, Refusal>
+    ensures { outcome_of result ≡ decide_of a b }
 {
     if bad_counts(a.count, b.count) {
-        Decided::Refused(Refusal {
+        Err(Refusal {
             number: 11,
             place: 0,
         })
     } else if shapes_differ(a, b) {
-        Decided::Refused(Refusal {
+        Err(Refusal {
             number: 7,
             place: 0,
         })
     } else {
-        Decided::Is(compare_from(a, b, 0, a.count))
+        Ok(compare_from(a, b, 0, a.count))
     }
 }
 
-pub fn compare(a: Record, b: Record) -> Compared
-    ensures { compared_outcome result ≡ compare_of a b }
+pub fn compare(a: Record, b: Record) -> Result<Order, Refusal>
+    ensures { outcome_of result ≡ compare_of a b }
 {
-    match decide(a, b) {
-        Decided::Is(d) => {
-            let o = d.order;
-            Compared::Is(o)
-        }
-        Decided::Refused(f) => Compared::Refused(f),
-    }
+    let d = decide(a, b)?;
+    Ok(d.order)
 }

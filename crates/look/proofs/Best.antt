@@ -1,4 +1,5 @@
 -- The lowest and the highest of samples: what is found last is better than all that came before.
+use Rattle.std.specs.Prelude.{Option, None, Some}
 use Rattle.std.proofs.Common.{◌≡◌, Bool, true, false, cond, List, [], ◌∷◌, ◌++◌, sym, refl, ap, ◌∙◌, subst, true≢false}
 use Rattle.float.specs.declared.Order.{Order}
 use Rattle.float.specs.declared.Order.TheVariants.{Less, Equal, Greater, Unordered}
@@ -14,8 +15,6 @@ use Rattle.cmp.proofs.Orders.{turned_order, less_transitive}
 use Rattle.cmp.proofs.SameNumber.{number_equal}
 use Rattle.row.specs.Row.{any}
 use Rattle.row.proofs.Picked.{Strict, none_still, picked_first, picked_next, picked_still, held_by_all}
-use Rattle.look.specs.declared.Found.{Found}
-use Rattle.look.specs.declared.Found.TheVariants.{Is, Nothing}
 use Rattle.look.specs.declared.Seen.{Seen}
 use Rattle.look.specs.Report.{says, unlike_itself, better_of, noted_of, all_noted}
 use Rattle.look.specs.ReportTheorem.{Best}
@@ -26,21 +25,21 @@ abbrev pub Ordered : (Value → Value → Outcome Bool) → Type 0
 Ordered test = Strict unlike_itself (λ v a. says (test v a))
 
 module _ (test : Value → Value → Outcome Bool) (strict : Ordered test) where
-  best_step : (p : List Value) (f : Found) (v : Value) → Best test p f → Best test (p ++ (v ∷ [])) (better_of test f v)
-  best_step p Nothing v h = go (unlike_itself v) refl
+  best_step : (p : List Value) (f : Option Value) (v : Value) → Best test p f → Best test (p ++ (v ∷ [])) (better_of test f v)
+  best_step p None v h = go (unlike_itself v) refl
     where
-      go : (t : Bool) → unlike_itself v ≡ t → Best test (p ++ (v ∷ [])) (cond t Nothing (Is v))
+      go : (t : Bool) → unlike_itself v ≡ t → Best test (p ++ (v ∷ [])) (cond t None (Some v))
       go true q = none_still unlike_itself p v h q
       go false q = picked_first strict p v h q
-  best_step p (Is a) v h = go (says (test v a)) refl
+  best_step p (Some a) v h = go (says (test v a)) refl
     where
-      go : (t : Bool) → says (test v a) ≡ t → Best test (p ++ (v ∷ [])) (cond t (Is v) (Is a))
+      go : (t : Bool) → says (test v a) ≡ t → Best test (p ++ (v ∷ [])) (cond t (Some v) (Some a))
       go true q = picked_next strict p v a h q
       go false q = picked_still strict p v a h q
 
   -- over all samples
-  module _ (to : Kind) (found : Seen → Found) (step : (s : Seen) (v : Value) → found (noted_of to s v) ≡ better_of test (found s) v) where
-    pub best_of : (vs : List Value) (s : Seen) → found s ≡ Nothing → Best test vs (found (all_noted to s vs))
+  module _ (to : Kind) (found : Seen → Option Value) (step : (s : Seen) (v : Value) → found (noted_of to s v) ≡ better_of test (found s) v) where
+    pub best_of : (vs : List Value) (s : Seen) → found s ≡ None → Best test vs (found (all_noted to s vs))
     unfolding any all_noted
     best_of vs s q =
         held_by_all (noted_of to) (all_noted to) (λ r. refl) (λ r v l. refl) (λ p r. Best test p (found r))

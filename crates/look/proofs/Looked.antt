@@ -1,5 +1,7 @@
 -- Looking at the blocks is looking at the whole: a fold over joined lists. Below 2^64 its counts are those of the samples, and its answer is
 -- the row's: the first sample that is refused decides.
+use Rattle.value.specs.declared.Refusal.{Refusal}
+use Rattle.std.specs.Prelude.{Result, Err, Ok}
 use Rattle.std.proofs.Common.{◌≡◌, ℕ, suc, ◌+◌, ◌^◌, ◌<◌, ◌≤◌, Bool, true, false, cond, not, List, [], ◌∷◌, ◌++◌, length, sym, refl, ap, ◌∙◌, inl}
 use Rattle.std.proofs.Common.{inr, append-nil, add-zero, mod-eq_of_lt, zero-add, add-one, arith, lit≤, eq-eqb, ne_eqb}
 use native.Mathlib.Nat.{zero-mod}
@@ -8,8 +10,6 @@ use Rattle.value.specs.declared.Kind.{Kind}
 use Rattle.value.specs.declared.Value.{Value}
 use Rattle.value.specs.Outcome.{Outcome, gives, refuses, refuse_if, and_then, Success, done}
 use Rattle.cmp.specs.Compare.{lt_of, gt_of}
-use Rattle.row.specs.declared.Rowed.{Rowed}
-use Rattle.row.specs.declared.Rowed.TheVariants as rowed
 use Rattle.row.specs.Row.{rowed_outcome, row_answer, sample_then, how_many}
 use Rattle.look.specs.declared.Seen.{Seen}
 use Rattle.value.specs.Kinds.{bytes_of}
@@ -42,11 +42,11 @@ module _ (from to : Kind) where
 
 -- ---- the count and the answer of all samples
 
-first_then : (a : Rowed) (n : ℕ) (o : Outcome ℕ) (rest : Outcome Success)
+first_then : (a : Result (Unit {0}) Refusal) (n : ℕ) (o : Outcome ℕ) (rest : Outcome Success)
     → and_then (rowed_outcome (first_of a n o)) (λ d. rest) ≡ and_then (rowed_outcome a) (λ d. sample_then n o rest)
-first_then rowed.Done n (gives b) rest = refl
-first_then rowed.Done n (refuses m p) rest = refl
-first_then (rowed.Refused f) n o rest = refl
+first_then (Ok u) n (gives b) rest = refl
+first_then (Ok u) n (refuses m p) rest = refl
+first_then (Err f) n o rest = refl
 
 stays : (o : Outcome Success) → o ≡ and_then o (λ d. gives done)
 stays (gives done) = refl
@@ -125,7 +125,7 @@ module _ (to : Kind) where
       let one = next_sample to s v (omega arith) in
       let rest = row_answer (bits_to to) (suc s.samples) vs in
       all_answer (noted_of to s v) vs (omega (arith, one))
-      ∙ ap (λ (a : Rowed). and_then (rowed_outcome a) (λ d. row_answer (bits_to to) (noted_of to s v).samples vs)) (noted_answer to s v)
+      ∙ ap (λ (a : Result (Unit {0}) Refusal). and_then (rowed_outcome a) (λ d. row_answer (bits_to to) (noted_of to s v).samples vs)) (noted_answer to s v)
       ∙ ap (λ (n : ℕ). and_then (rowed_outcome (first_of s.answer s.samples (bits_to to v))) (λ d. row_answer (bits_to to) n vs)) one
       ∙ first_then s.answer s.samples (bits_to to v) rest
 

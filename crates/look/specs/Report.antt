@@ -1,15 +1,12 @@
 -- What a report says of samples: a fold over them. RULES.md: Report.
-use Rattle.std.specs.Prelude.{ℕ, ◌+◌, Bool, true, false, cond, List, [], ◌∷◌, ◌==◌}
+use Rattle.value.specs.declared.Refusal.{Refusal}
+use Rattle.std.specs.Prelude.{ℕ, ◌+◌, Bool, true, false, cond, List, [], ◌∷◌, ◌==◌, Option, Result, Err, None, Ok, Some}
 use Rattle.value.specs.declared.Kind.{Kind}
 use Rattle.value.specs.declared.Value.{Value}
 use Rattle.value.specs.Meaning.{exact_of}
 use Rattle.value.specs.Outcome.{Outcome, gives, refuses}
 use Rattle.cmp.specs.Compare.{ne_of, lt_of, gt_of}
 use Rattle.convert.specs.Convert.{is_infinite, is_minus_zero}
-use Rattle.row.specs.declared.Rowed.{Rowed}
-use Rattle.row.specs.declared.Rowed.TheVariants as rowed
-use Rattle.look.specs.declared.Found.{Found}
-use Rattle.look.specs.declared.Found.TheVariants.{Is, Nothing}
 use Rattle.look.specs.declared.Seen.{Seen}
 use Rattle.sample.specs.Samples.{left_of, samples_of, counted}
 use Rattle.sample.specs.Refusals.{bits_to, refused_to}
@@ -34,15 +31,15 @@ abbrev pub minus_zero : Value → Bool
 minus_zero v = is_minus_zero (exact_of v)
 
 -- what was found so far, or a sample that passes a test against it; a NaN is never found
-abbrev pub better_of : (Value → Value → Outcome Bool) → Found → Value → Found
-better_of test Nothing v = cond (unlike_itself v) Nothing (Is v)
-better_of test (Is a) v = cond (says (test v a)) (Is v) (Is a)
+abbrev pub better_of : (Value → Value → Outcome Bool) → Option Value → Value → Option Value
+better_of test None v = cond (unlike_itself v) None (Some v)
+better_of test (Some a) v = cond (says (test v a)) (Some v) (Some a)
 
 -- the lowest and the highest: of samples that compare Equal the first stays
-abbrev pub lower_of : Found → Value → Found
+abbrev pub lower_of : Option Value → Value → Option Value
 lower_of f v = better_of lt_of f v
 
-abbrev pub higher_of : Found → Value → Found
+abbrev pub higher_of : Option Value → Value → Option Value
 higher_of f v = better_of gt_of f v
 
 -- one more where the test holds
@@ -51,10 +48,10 @@ count_if true n = counted (n + 1)
 count_if false n = n
 
 -- what is refused first stays; `at` is the sample's index
-abbrev pub first_of : Rowed → ℕ → Outcome ℕ → Rowed
-first_of (rowed.Refused f) at o = rowed.Refused f
-first_of rowed.Done at (gives b) = rowed.Done
-first_of rowed.Done at (refuses number place) = rowed.Refused (record { number = number; place = at })
+abbrev pub first_of : Result (Unit {0}) Refusal → ℕ → Outcome ℕ → Result (Unit {0}) Refusal
+first_of (Err f) at o = Err f
+first_of (Ok u) at (gives b) = Ok tt
+first_of (Ok u) at (refuses number place) = Err (record { number = number; place = at })
 
 -- what was seen, and a sample more
 unfoldable pub noted_of : Kind → Seen → Value → Seen
@@ -73,7 +70,7 @@ noted_of to s v = record {
 
 -- before the first sample
 abbrev pub nothing_seen : Seen
-nothing_seen = record { samples = 0; nans = 0; infinities = 0; minus_zeros = 0; lowest = Nothing; highest = Nothing; refusable = 0; answer = rowed.Done }
+nothing_seen = record { samples = 0; nans = 0; infinities = 0; minus_zeros = 0; lowest = None; highest = None; refusable = 0; answer = Ok tt }
 
 -- the samples, one after the other
 unfoldable pub all_noted : Kind → Seen → List Value → Seen
@@ -90,7 +87,7 @@ left_noted s = record {
   lowest = s.lowest;
   highest = s.highest;
   refusable = s.refusable;
-  answer = rowed.Refused (record { number = 9; place = s.samples });
+  answer = Err (record { number = 9; place = s.samples });
 }
 
 -- all its samples, and whether bytes are left over

@@ -1,5 +1,5 @@
 -- What the theorems on reports speak of: an input that is looked at as blocks, and the bits of what is counted. RULES.md: Report.
-use Rattle.std.specs.Prelude.{◌≡◌, ℕ, ◌^◌, ◌<◌, Bool, false, not, List, [], ◌∷◌, length, nat_eq, slice_index_or}
+use Rattle.std.specs.Prelude.{◌≡◌, ℕ, ◌^◌, ◌<◌, Bool, false, not, List, [], ◌∷◌, length, nat_eq, slice_index_or, Option, None, Some}
 use Rattle.float.specs.Format.{f16, f32, f64}
 use Rattle.value.specs.declared.Kind.{Kind}
 use Rattle.value.specs.declared.Value.{Value}
@@ -8,8 +8,6 @@ use Rattle.value.specs.Meaning.{bits_of}
 use Rattle.value.specs.Outcome.{Outcome}
 use Rattle.cmp.specs.Compare.{lt_of, gt_of}
 use Rattle.row.specs.Row.{rowed_outcome, any, how_many}
-use Rattle.look.specs.declared.Found.{Found}
-use Rattle.look.specs.declared.Found.TheVariants.{Is, Nothing}
 use Rattle.look.specs.declared.Seen.{Seen}
 use Rattle.sample.specs.Samples.{count_of, samples_of, joined, WholeBlocks}
 use Rattle.sample.specs.Refusals.{answer_of, refused_to}
@@ -21,9 +19,9 @@ looked_at from to s [] = s
 looked_at from to s (b ∷ bs) = looked_at from to (look_of from to s b) bs
 
 -- what is found is a number, it is one of the samples, and none passes the test against it; nothing is found where no sample is a number
-abbrev pub Best : (Value → Value → Outcome Bool) → List Value → Found → Type 0
-Best test vs Nothing = any (λ v. not (unlike_itself v)) vs ≡ false
-Best test vs (Is a) = (unlike_itself a ≡ false) × ((i : ℕ) × (i < length vs) × (slice_index_or vs i a ≡ a)) × (any (λ v. says (test v a)) vs ≡ false)
+abbrev pub Best : (Value → Value → Outcome Bool) → List Value → Option Value → Type 0
+Best test vs None = any (λ v. not (unlike_itself v)) vs ≡ false
+Best test vs (Some a) = (unlike_itself a ≡ false) × ((i : ℕ) × (i < length vs) × (slice_index_or vs i a ≡ a)) × (any (λ v. says (test v a)) vs ≡ false)
 
 -- what is told of a whole input: its counts, that none of its samples is lower than the lowest or higher than the highest, and the answer
 -- of its migration

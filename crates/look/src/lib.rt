@@ -6,15 +6,7 @@
 mod looks;
 
 pub use looks::look_block;
-use row::Rowed;
-use value::Value;
-
-// A sample, if there is one.
-#[derive(Clone, Copy)]
-pub enum Found {
-    Is(Value),
-    Nothing,
-}
+use value::{Refusal, Value};
 
 // What was seen of samples: how many there were, how many of them are NaN, infinities and minus zeros, the lowest and the highest, how many
 // a conversion would refuse, and what it would answer; before the first, none, Nothing and Done.
@@ -24,8 +16,8 @@ pub struct Seen {
     pub nans: usize,
     pub infinities: usize,
     pub minus_zeros: usize,
-    pub lowest: Found,
-    pub highest: Found,
+    pub lowest: Option<Value>,
+    pub highest: Option<Value>,
     pub refusable: usize,
-    pub answer: Rowed,
+    pub answer: Result<(), Refusal>,
 }

@@ -1,25 +1,24 @@
 // What a report says of samples, noted one by one: nothing is written. RULES.md: Report.
+ghost use Rattle.value.specs.Outcome.{outcome_of};
 ghost use Rattle.std.specs.Prelude.{◌≡◌, if◌then◌else◌};
-ghost use Rattle.cmp.specs.Compare.{tested_outcome};
 ghost use Rattle.sample.specs.Samples.{samples_of};
 ghost use Rattle.sample.specs.Refusals.{bits_to, refused_to};
 ghost use Rattle.look.specs.Report.{says, unlike_itself, infinite, minus_zero, lower_of, higher_of, count_if, first_of, noted_of, all_noted};
 ghost use Rattle.look.specs.Report.{left_noted, look_of};
 
-use crate::{Found, Seen};
-use cmp::{Tested, gt, lt, ne};
+use crate::Seen;
+use cmp::{gt, lt, ne};
 use float::{is_infinite_f16, is_infinite_f32, is_infinite_f64};
-use row::Rowed;
 use sample::{count, is_refused, number_of, sample_at};
 use std::num::wrapping_add_usize;
 use value::{Kind, Refusal, Value, bits_f32, bits_f64, bytes_of};
 
-fn is_yes(t: Tested) -> bool
-    ensures { result ≡ says (tested_outcome t) }
+fn is_yes(t: Result<bool, Refusal>) -> bool
+    ensures { result ≡ says (outcome_of t) }
 {
     match t {
-        Tested::Is(yes) => yes,
-        Tested::Refused(_) => false,
+        Ok(yes) => yes,
+        Err(_) => false,
     }
 }
 
@@ -51,27 +50,27 @@ fn is_minus_zero(v: Value) -> bool
     }
 }
 
-fn chosen(t: bool, one: Found, other: Found) -> Found
+fn chosen(t: bool, one: Option<Value>, other: Option<Value>) -> Option<Value>
     ensures { result ≡ (if t then one else other) }
 {
     if t { one } else { other }
 }
 
-fn lower(f: Found, v: Value) -> Found
+fn lower(f: Option<Value>, v: Value) -> Option<Value>
     ensures { result ≡ lower_of f v }
 {
     match f {
-        Found::Nothing => chosen(is_nan(v), f, Found::Is(v)),
-        Found::Is(a) => chosen(is_yes(lt(v, a)), Found::Is(v), f),
+        None => chosen(is_nan(v), f, Some(v)),
+        Some(a) => chosen(is_yes(lt(v, a)), Some(v), f),
     }
 }
 
-fn higher(f: Found, v: Value) -> Found
+fn higher(f: Option<Value>, v: Value) -> Option<Value>
     ensures { result ≡ higher_of f v }
 {
     match f {
-        Found::Nothing => chosen(is_nan(v), f, Found::Is(v)),
-        Found::Is(a) => chosen(is_yes(gt(v, a)), Found::Is(v), f),
+        None => chosen(is_nan(v), f, Some(v)),
+        Some(a) => chosen(is_yes(gt(v, a)), Some(v), f),
     }
 }
 
@@ -82,15 +81,21 @@ fn count_if(t: bool, n: usize) -> usize
 }
 
 // `bad` is whether the sample, which has the index `at`, is refused.
-fn first_refusal(r: Rowed, at: usize, bad: bool, v: Value, to: Kind) -> Rowed
+fn first_refusal(
+    r: Result<(), Refusal>,
+    at: usize,
+    bad: bool,
+    v: Value,
+    to: Kind,
+) -> Result<(), Refusal>
     requires { bad ≡ refused_to to v }
     ensures { result ≡ first_of r at (bits_to to v) }
 {
     match r {
-        Rowed::Refused(_) => r,
-        Rowed::Done => {
+        Err(_) => r,
+        Ok(()) => {
             if bad {
-                return Rowed::Refused(Refusal {
+                return Err(Refusal {
                     number: number_of(v, to),
                     place: at,
                 });
@@ -145,7 +150,7 @@ fn left_noted(s: Seen) -> Seen
         lowest,
         highest,
         refusable: s.refusable,
-        answer: Rowed::Refused(Refusal {
+        answer: Err(Refusal {
             number: 9,
             place: s.samples,
         }),

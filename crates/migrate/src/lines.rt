@@ -1,7 +1,6 @@
 // The lines of an answer, on standard output.
 use crate::files::ENAMETOOLONG;
 use crate::sentences::put_why;
-use look::Found;
 use std::io;
 use text::{KIND_NAMES, digits_of, nth_word};
 use value::{Kind, Layout, Refusal, Value, bits_of, kind_number, kind_of, layout_of};
@@ -47,11 +46,11 @@ pub(crate) fn put_number(rt: HostRuntime, name: &[u8], n: u64) -> io::Result<()>
 }
 
 // A sample, or `-` where there is none.
-pub(crate) fn put_found(rt: HostRuntime, name: &[u8], f: Found) -> io::Result<()> {
+pub(crate) fn put_found(rt: HostRuntime, name: &[u8], f: Option<Value>) -> io::Result<()> {
     put_text(rt, name)?;
     match f {
-        Found::Is(v) => put_value(rt, v)?,
-        Found::Nothing => put_text(rt, b"-")?,
+        Some(v) => put_value(rt, v)?,
+        None => put_text(rt, b"-")?,
     }
     put_text(rt, b"\n")?;
     Ok(())
@@ -89,10 +88,10 @@ fn put_bits(rt: HostRuntime, k: Kind, bits: u64) -> io::Result<()> {
 }
 
 // The number, the place, the sample if there is one, and what the number means.
-pub(crate) fn put_refusal(rt: HostRuntime, f: Refusal, sample: Found) -> io::Result<()> {
+pub(crate) fn put_refusal(rt: HostRuntime, f: Refusal, sample: Option<Value>) -> io::Result<()> {
     put_number(rt, b"refused=", f.number as u64)?;
     put_number(rt, b"place=", f.place as u64)?;
-    if let Found::Is(v) = sample {
+    if let Some(v) = sample {
         put_text(rt, b"sample=")?;
         put_bits(rt, kind_of(v), bits_of(v))?;
         put_text(rt, b"\n")?;

@@ -17,7 +17,6 @@ use moves::migrate;
 use reports::report;
 use std::io;
 use text::{kind_named, word_number};
-use value::KindFound;
 
 // What was asked for beside the words, and the place of the first word. `into` is for a caller that makes, names and removes OUT itself.
 #[derive(Clone, Copy)]
@@ -96,11 +95,11 @@ fn says(rt: HostRuntime, i: usize, word: &[u8]) -> bool {
 }
 
 fn move_file(rt: HostRuntime, o: Options) -> io::Result<()> {
-    let KindFound::Is(from) = kind_in(rt, o, 0) else {
+    let Some(from) = kind_in(rt, o, 0) else {
         put_no_kind(rt, b"FROM")?;
         return Ok(());
     };
-    let KindFound::Is(to) = kind_in(rt, o, 1) else {
+    let Some(to) = kind_in(rt, o, 1) else {
         put_no_kind(rt, b"TO")?;
         return Ok(());
     };
@@ -116,7 +115,7 @@ fn move_file(rt: HostRuntime, o: Options) -> io::Result<()> {
 }
 
 fn report_alone(rt: HostRuntime, o: Options) -> io::Result<()> {
-    let KindFound::Is(from) = kind_in(rt, o, 1) else {
+    let Some(from) = kind_in(rt, o, 1) else {
         put_no_kind(rt, b"FROM")?;
         return Ok(());
     };
@@ -125,11 +124,11 @@ fn report_alone(rt: HostRuntime, o: Options) -> io::Result<()> {
 }
 
 fn report_to(rt: HostRuntime, o: Options) -> io::Result<()> {
-    let KindFound::Is(from) = kind_in(rt, o, 1) else {
+    let Some(from) = kind_in(rt, o, 1) else {
         put_no_kind(rt, b"FROM")?;
         return Ok(());
     };
-    let KindFound::Is(to) = kind_in(rt, o, 3) else {
+    let Some(to) = kind_in(rt, o, 3) else {
         put_no_kind(rt, b"TO")?;
         return Ok(());
     };
@@ -138,7 +137,7 @@ fn report_to(rt: HostRuntime, o: Options) -> io::Result<()> {
 }
 
 // The kind that a word names; one that is longer than any name is none.
-fn kind_in(rt: HostRuntime, o: Options, word: usize) -> KindFound {
+fn kind_in(rt: HostRuntime, o: Options, word: usize) -> Option<Kind> {
     let mut name = [0u8; 8];
     let n = argument(rt, o.first.wrapping_add(word), &mut name);
     kind_named(&name[..n])

@@ -10,7 +10,6 @@ use crate::files::{
 use crate::lines::{put_error, put_failure, put_number, put_refusal};
 use crate::names::made_beside;
 use migration::{Fault, State, run};
-use row::Rowed;
 use std::fs::{File, OpenOptions};
 use std::{fs, io};
 use value::Kind;
@@ -194,10 +193,10 @@ fn is_done(r: State, changed: bool) -> bool {
     }
 }
 
-fn is_given(answer: Rowed) -> bool {
+fn is_given(answer: Result<(), Refusal>) -> bool {
     match answer {
-        Rowed::Done => true,
-        Rowed::Refused(_) => false,
+        Ok(()) => true,
+        Err(_) => false,
     }
 }
 
@@ -292,8 +291,8 @@ fn put_result(rt: HostRuntime, r: State) -> io::Result<()> {
     let answer = progress.answer;
     put_number(rt, b"samples=", progress.samples as u64)?;
     match answer {
-        Rowed::Done => put_number(rt, b"refused=", 0)?,
-        Rowed::Refused(f) => put_refusal(rt, f, sample)?,
+        Ok(()) => put_number(rt, b"refused=", 0)?,
+        Err(f) => put_refusal(rt, f, sample)?,
     }
     Ok(())
 }

@@ -3,9 +3,8 @@ use crate::Options;
 use crate::files::{is_changed, open_in, size_of, watched};
 use crate::lines::{put_error, put_failure, put_found, put_number, put_refusal};
 use crate::sentences::put_why;
-use look::{Found, Seen};
+use look::Seen;
 use migration::{Fault, Look, look_through};
-use row::Rowed;
 use std::fs::File;
 use std::io;
 use value::Kind;
@@ -74,23 +73,23 @@ fn put_seen(rt: HostRuntime, s: Seen, asked: bool) -> io::Result<()> {
 }
 
 // No sample is refused with 9.
-fn is_left_over(answer: Rowed) -> bool {
+fn is_left_over(answer: Result<(), Refusal>) -> bool {
     match answer {
-        Rowed::Done => false,
-        Rowed::Refused(f) => f.number == 9,
+        Ok(()) => false,
+        Err(f) => f.number == 9,
     }
 }
 
-fn put_left_over(rt: HostRuntime, answer: Rowed) -> io::Result<()> {
-    if let Rowed::Refused(f) = answer {
-        put_refusal(rt, f, Found::Nothing)?;
+fn put_left_over(rt: HostRuntime, answer: Result<(), Refusal>) -> io::Result<()> {
+    if let Err(f) = answer {
+        put_refusal(rt, f, None)?;
     }
     Ok(())
 }
 
 // The index of the first sample that a move would refuse, and the number of its refusal.
-fn put_first(rt: HostRuntime, answer: Rowed) -> io::Result<()> {
-    if let Rowed::Refused(f) = answer {
+fn put_first(rt: HostRuntime, answer: Result<(), Refusal>) -> io::Result<()> {
+    if let Err(f) = answer {
         put_number(rt, b"first=", f.place as u64)?;
         put_number(rt, b"number=", f.number as u64)?;
         put_why(rt, f.number)?;

@@ -1,5 +1,6 @@
 -- The sample that a refusal is about. Its place is one of the row's own: behind the samples before a block, so that the block has it there, and
 -- before all samples that come later, so that it stays the sample of the whole.
+use Rattle.std.specs.Prelude.{Option, Result, Err, None, Some}
 use Prim.Native.Nat.{ℕ, suc, ◌+◌, ◌-◌, ◌≤◌, ◌<◌}
 use native.Mathlib.Omega.{arith}
 use mathlib.Core.Bool.{Bool, true, false, not, cond}
@@ -17,39 +18,35 @@ use Rattle.value.specs.declared.Refusal.{Refusal}
 use Rattle.value.specs.declared.Value.{Value}
 use Rattle.value.specs.Meaning.{value_of}
 use Rattle.value.specs.Outcome.{Outcome, gives, refuses, refuse_if, and_then, Success, done}
-use Rattle.row.specs.declared.Rowed.{Rowed}
-use Rattle.row.specs.declared.Rowed.TheVariants.{Refused}
 use Rattle.row.specs.Row.{rowed_outcome, row_answer, sample_then}
 use Rattle.sample.specs.Samples.{count_of, left_of, samples_of, sample_at}
 use Rattle.sample.specs.Refusals.{bits_to, answer_of}
 use Rattle.sample.proofs.Samplings.{length_samples}
 use Rattle.sample.proofs.Joining.{left_joined, samples_of_joined}
 use Rattle.block.proofs.Joining.{answer_joined}
-use Rattle.look.specs.declared.Found.{Found}
-use Rattle.look.specs.declared.Found.TheVariants.{Is, Nothing}
 use Rattle.migration.specs.declared.blocks.State.{State}
 use Rattle.migration.specs.Steps.{sample_by, found_or, sample_after}
 use Rattle.migration.specs.Runs.{refused_sample}
 
 -- ---- what the code found
 
-pub found_new : {kept : Found} {v w : Value} → kept ≡ Nothing → v ≡ w → Is v ≡ found_or kept w
-found_new {kept} {v} {w} p q = ap Is q ∙ sym (ap (λ (f : Found). found_or f w) p)
+pub found_new : {kept : Option Value} {v w : Value} → kept ≡ None → v ≡ w → Some v ≡ found_or kept w
+found_new {kept} {v} {w} p q = ap Some q ∙ sym (ap (λ (f : Option Value). found_or f w) p)
 
-module _ (from : Kind) (s : State) (block : List ℕ) {answer : Rowed} {f : Refusal} (refused : answer ≡ Refused f) where
-  abbrev here : ℕ → Found
+module _ (from : Kind) (s : State) (block : List ℕ) {answer : Result (Unit {0}) Refusal} {f : Refusal} (refused : answer ≡ Err f) where
+  abbrev here : ℕ → Option Value
   here i = found_or s.sample (sample_at from block i)
 
-  by_number : {t : Bool} → eqb f.number 9 ≡ t → sample_after from s block (rowed_outcome answer) ≡ cond t Nothing (here (f.place - s.progress.samples))
+  by_number : {t : Bool} → eqb f.number 9 ≡ t → sample_after from s block (rowed_outcome answer) ≡ cond t None (here (f.place - s.progress.samples))
   by_number q =
-      ap (λ (a : Rowed). sample_after from s block (rowed_outcome a)) refused
-      ∙ ap (λ (t : Bool). cond t Nothing (here (f.place - s.progress.samples))) q
+      ap (λ (a : Result (Unit {0}) Refusal). sample_after from s block (rowed_outcome a)) refused
+      ∙ ap (λ (t : Bool). cond t None (here (f.place - s.progress.samples))) q
 
   -- bytes left over
-  pub none_left : f.number ≡ 9 → Nothing ≡ sample_after from s block (rowed_outcome answer)
+  pub none_left : f.number ≡ 9 → None ≡ sample_after from s block (rowed_outcome answer)
   none_left q = sym (by_number (eq-eqb f.number 9 q))
 
-  pub at_index : (f.number ≡ 9 → ⊥) → {i : ℕ} → i ≡ f.place - s.progress.samples → {found : Found} → found ≡ here i
+  pub at_index : (f.number ≡ 9 → ⊥) → {i : ℕ} → i ≡ f.place - s.progress.samples → {found : Option Value} → found ≡ here i
       → found ≡ sample_after from s block (rowed_outcome answer)
   at_index h p q = q ∙ ap here p ∙ sym (by_number (ne_eqb f.number 9 h))
 
@@ -67,21 +64,21 @@ row_inside {A} {B} conv at (x ∷ xs) {n} {q} h = go (conv x) h (row_inside conv
     go (refuses m p) k rest = let e : at ≡ q = cc in (omega arith, omega arith)
 
 -- what was found of the first row stays
-stays_found : (t : Bool) {v w : Value} (u : Value) → v ≡ w → cond t Nothing (found_or (cond t Nothing (Is v)) u) ≡ cond t Nothing (Is w)
+stays_found : (t : Bool) {v w : Value} (u : Value) → v ≡ w → cond t None (found_or (cond t None (Some v)) u) ≡ cond t None (Some w)
 stays_found true u q = refl
-stays_found false u q = ap Is q
+stays_found false u q = ap Some q
 
 module _ {B : Type 0} (conv : Value → Outcome B) (d : Value) (xs ys : List Value) where
   behind_first : (q : ℕ) → length xs ≤ q → get_or ys (q - length xs) d ≡ get_or (xs ++ ys) q d
   behind_first q h = sym (get_or-append-add xs ys (q - length xs) d) ∙ ap (λ (k : ℕ). get_or (xs ++ ys) k d) (omega arith)
 
   rows_joined : (o r : Outcome Success) → o ≡ row_answer conv 0 xs → r ≡ row_answer conv (0 + length xs) ys
-      → sample_by (λ q. found_or (sample_by (λ p. Is (get_or xs p d)) o) (get_or ys (q - length xs) d)) (and_then o (λ e. r))
-      ≡ sample_by (λ q. Is (get_or (xs ++ ys) q d)) (and_then o (λ e. r))
+      → sample_by (λ q. found_or (sample_by (λ p. Some (get_or xs p d)) o) (get_or ys (q - length xs) d)) (and_then o (λ e. r))
+      ≡ sample_by (λ q. Some (get_or (xs ++ ys) q d)) (and_then o (λ e. r))
   rows_joined (gives done) (gives done) h k = refl
   rows_joined (gives done) (refuses n q) h k =
       let inside = row_inside conv (0 + length xs) ys (sym k) in
-      ap (λ (v : Value). cond (eqb n 9) Nothing (Is v)) (behind_first q (omega (arith, inside)))
+      ap (λ (v : Value). cond (eqb n 9) None (Some v)) (behind_first q (omega (arith, inside)))
   rows_joined (refuses n q) r h k =
       let inside = row_inside conv 0 xs (sym h) in
       stays_found (eqb n 9) (get_or ys (q - length xs) d) (sym (get_or-append xs ys d q (omega (arith, inside))))
@@ -100,7 +97,7 @@ module _ (from to : Kind) where
 
   module _ (p b : List ℕ) (whole : left_of from p ≡ 0) where
     -- the sample after b, by what was found in p and by how many samples came before
-    abbrev after : Found → ℕ → Outcome Success → Found
+    abbrev after : Option Value → ℕ → Outcome Success → Option Value
     after kept n answer = sample_by (λ q. found_or kept (sample_at from b (q - n))) answer
 
     abbrev Told : Outcome Success → Type 0
@@ -120,7 +117,7 @@ module _ (from to : Kind) where
         subst Told (sym both)
         (ap (λ (n : ℕ). after (refused_sample from p o) n answer) (sym (length_samples from (count_of from p) p))
         ∙ rows_joined (bits_to to) (value_of from 0) xs ys o (row_answer (bits_to to) (0 + length xs) ys) (whole_answer p whole) refl
-        ∙ ap (λ (l : List Value). sample_by (λ q. Is (get_or l q (value_of from 0))) answer) (sym (samples_of_joined from p b whole)))
+        ∙ ap (λ (l : List Value). sample_by (λ q. Some (get_or l q (value_of from 0))) answer) (sym (samples_of_joined from p b whole)))
 
     told_joined : Told (answer_of from to (p ++ b))
     told_joined = elim (lt_or_ge 0 (left_of from b)) [
@@ -129,6 +126,6 @@ module _ (from to : Kind) where
     ]
 
     -- by other names
-    pub told_next : {kept : Found} {n : ℕ} {o r : Outcome Success} → kept ≡ refused_sample from p o → n ≡ count_of from p
+    pub told_next : {kept : Option Value} {n : ℕ} {o r : Outcome Success} → kept ≡ refused_sample from p o → n ≡ count_of from p
         → o ≡ answer_of from to p → r ≡ answer_of from to (p ++ b) → after kept n r ≡ refused_sample from (p ++ b) r
     told_next k c o r = rw (k, c, o, r) told_joined

@@ -1,11 +1,11 @@
 -- Runs, turn by turn.
+use Rattle.std.specs.Prelude.{None}
 use Prim.Native.Nat.{ℕ, ◌<◌}
 use mathlib.Core.Logic.{inl, inr}
 use mathlib.Core.List.{List, [], ◌∷◌, ◌++◌}
 use mathlib.Core.Path.{◌≡◌, refl}
 use Rattle.value.specs.declared.Kind.{Kind}
 use Rattle.block.specs.declared.Progress.{Progress}
-use Rattle.look.specs.declared.Found.TheVariants as found
 use Rattle.look.specs.declared.Seen.{Seen}
 use Rattle.look.specs.Report.{nothing_seen}
 use Rattle.input.specs.Chain.{all_turns, begins, takes, fails}
@@ -22,7 +22,7 @@ module _ (from to : Kind) where
 
   -- none led to the beginning
   pub at_beginning : (p : Progress) → p ≡ beginning.state.progress
-      → Reaches (record { progress = p; sample = found.Nothing; fault = Nothing; turns = all_turns })
+      → Reaches (record { progress = p; sample = None; fault = Nothing; turns = all_turns })
   at_beginning p q = rw q ([], [], begins)
 
   -- a turn leads on

@@ -1,16 +1,14 @@
 -- Whole runs, by the blocks that they took and the bytes that were handed to a write. RULES.md: Migration, Report.
-use Rattle.std.specs.Prelude.{ℕ, ◌*◌, ◌^◌, ◌≤◌, ◌<◌, ◌≡◌, List, [], ◌++◌, length, take}
+use Rattle.value.specs.declared.Refusal.{Refusal}
+use Rattle.value.specs.declared.Value.{Value}
+use Rattle.std.specs.Prelude.{ℕ, ◌*◌, ◌^◌, ◌≤◌, ◌<◌, ◌≡◌, List, [], ◌++◌, length, take, Option, Result, None, Ok, Some}
 use Rattle.value.specs.declared.Kind.{Kind}
 use Rattle.value.specs.Kinds.{bytes_of}
 use Rattle.value.specs.Outcome.{Outcome, mapped, Success}
-use Rattle.row.specs.declared.Rowed.{Rowed}
-use Rattle.row.specs.declared.Rowed.TheVariants.{Done}
 use Rattle.row.specs.Row.{rowed_outcome}
 use Rattle.sample.specs.Samples.{count_of, joined, sample_at}
 use Rattle.block.specs.Migrate.{migrate_of}
 use Rattle.block.specs.Theorem.{written_by}
-use Rattle.look.specs.declared.Found.{Found}
-use Rattle.look.specs.declared.Found.TheVariants as found
 use Rattle.look.specs.Report.{nothing_seen}
 use Rattle.look.specs.ReportTheorem.{Tells}
 use Rattle.migration.specs.declared.blocks.State.{State}
@@ -30,12 +28,12 @@ pub record Moving : Type 0 where
 -- no samples yet, nothing refused and nothing written
 abbrev pub beginning : Moving
 beginning = record {
-  state = record { progress = record { samples = 0; answer = Done }; sample = found.Nothing; fault = Nothing; turns = all_turns };
+  state = record { progress = record { samples = 0; answer = Ok tt }; sample = None; fault = Nothing; turns = all_turns };
   written = [];
 }
 
 -- what is handed to a write for a block: the bytes of its samples, from the front of the output's buffer, unless something was refused
-abbrev pub handed : Kind → Kind → List ℕ → List ℕ → Rowed → List ℕ
+abbrev pub handed : Kind → Kind → List ℕ → List ℕ → Result (Unit {0}) Refusal → List ℕ
 handed from to block out answer = written_by (rowed_outcome answer) (take (count_of from block * bytes_of to) out)
 
 -- a turn of a move, with the bytes that it handed to a write
@@ -58,8 +56,8 @@ abbrev pub Runs : Kind → Kind → State → Type 0
 Runs from to r = ((bs : List (List ℕ)) × (written : List ℕ) × Ran from to bs (record { state = r; written = written })) × (r.turns ≡ 0)
 
 -- the sample of a whole input that was refused
-abbrev pub refused_sample : Kind → List ℕ → Outcome Success → Found
-refused_sample from bytes answer = sample_by (λ place. found.Is (sample_at from bytes place)) answer
+abbrev pub refused_sample : Kind → List ℕ → Outcome Success → Option Value
+refused_sample from bytes answer = sample_by (λ place. Some (sample_at from bytes place)) answer
 
 -- what a run answers, hands to a write and tells of a refused sample is what all its blocks come to, joined: the lowest bad sample decides
 abbrev pub RunDecides : Type 0

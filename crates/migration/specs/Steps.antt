@@ -1,13 +1,11 @@
 -- One turn of a run, by what stands in the buffer after the read. RULES.md: Migration, Report.
-use Rattle.std.specs.Prelude.{ℕ, ◌-◌, true, cond, ◌≡◌, List, eqb, length}
+use Rattle.std.specs.Prelude.{ℕ, ◌-◌, true, cond, ◌≡◌, List, eqb, length, Option, None, Some}
 use Rattle.value.specs.declared.Kind.{Kind}
 use Rattle.value.specs.declared.Value.{Value}
 use Rattle.value.specs.Outcome.{Outcome, gives, refuses, Success}
 use Rattle.row.specs.Row.{rowed_outcome}
 use Rattle.sample.specs.Samples.{sample_at}
 use Rattle.block.specs.Migrate.{StepTaken}
-use Rattle.look.specs.declared.Found.{Found}
-use Rattle.look.specs.declared.Found.TheVariants as found
 use Rattle.look.specs.Report.{look_of}
 use Rattle.migration.specs.declared.blocks.State.{State}
 use Rattle.migration.specs.declared.looks.Look.{Look}
@@ -16,17 +14,17 @@ use Rattle.migration.specs.Sizes.{buffer_bytes, block_bytes}
 use Rattle.migration.specs.Turns.{is_reading, WritingOnly, turns_left}
 
 -- the sample that a refusal is about, by its place: none without a refusal, and none for 9, bytes left over
-abbrev pub sample_by : (ℕ → Found) → Outcome Success → Found
-sample_by at (gives d) = found.Nothing
-sample_by at (refuses number place) = cond (eqb number 9) found.Nothing (at place)
+abbrev pub sample_by : (ℕ → Option Value) → Outcome Success → Option Value
+sample_by at (gives d) = None
+sample_by at (refuses number place) = cond (eqb number 9) None (at place)
 
 -- what was found before, or else a sample
-abbrev pub found_or : Found → Value → Found
-found_or (found.Is v) other = found.Is v
-found_or found.Nothing other = found.Is other
+abbrev pub found_or : Option Value → Value → Option Value
+found_or (Some v) other = Some v
+found_or None other = Some other
 
 -- after a block: the sample that was refused before it, or else the one in the block, where it comes behind the samples before
-abbrev pub sample_after : Kind → State → List ℕ → Outcome Success → Found
+abbrev pub sample_after : Kind → State → List ℕ → Outcome Success → Option Value
 sample_after from s block answer = sample_by (λ place. found_or s.sample (sample_at from block (place - s.progress.samples))) answer
 
 -- a turn in which the next block was moved, through a buffer for the output that has room for it

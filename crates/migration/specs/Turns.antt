@@ -1,7 +1,6 @@
 -- What stops a run, and when it goes on: after a full block that was moved without a fault.
-use Rattle.std.specs.Prelude.{ℕ, ◌-◌, Bool, true, false, cond, ◌≡◌}
-use Rattle.row.specs.declared.Rowed.{Rowed}
-use Rattle.row.specs.declared.Rowed.TheVariants.{Done, Refused}
+use Rattle.value.specs.declared.Refusal.{Refusal}
+use Rattle.std.specs.Prelude.{ℕ, ◌-◌, Bool, true, false, cond, ◌≡◌, Result, Err, Ok}
 use Rattle.migration.specs.declared.blocks.Fault.{Fault}
 use Rattle.migration.specs.declared.blocks.Fault.TheVariants.{Nothing, Reading, Writing}
 
@@ -18,9 +17,9 @@ is_reading (Reading errno) = true
 is_reading (Writing errno) = false
 
 -- What can have stopped a run when a block with this answer was to be written: after a refusal nothing is written, so nothing; else no read.
-abbrev pub WritingOnly : Rowed → Fault → Type 0
-WritingOnly Done fault = is_reading fault ≡ false
-WritingOnly (Refused f) fault = fault ≡ Nothing
+abbrev pub WritingOnly : Result (Unit {0}) Refusal → Fault → Type 0
+WritingOnly (Ok u) fault = is_reading fault ≡ false
+WritingOnly (Err f) fault = fault ≡ Nothing
 
 -- How many blocks may still be read, after one of so many.
 abbrev pub turns_left : ℕ → Bool → Fault → ℕ

@@ -13,8 +13,6 @@ ghost use Rattle.migration.specs.Turns.{is_nothing, turns_left, WritingOnly};
 use crate::watches::{Watch, begun, tell};
 use block::{Progress, ROW_PLACES, convert_block};
 use input::{Block, read_block};
-use look::Found;
-use row::Rowed;
 use sample::sample_at;
 use std::io::{Read, Seek, Write};
 use std::rt::Clock;
@@ -37,7 +35,7 @@ pub enum Fault {
 #[derive(Clone, Copy)]
 pub struct State {
     pub progress: Progress,
-    pub sample: Found,
+    pub sample: Option<Value>,
     pub fault: Fault,
     pub turns: u64,
 }
@@ -67,11 +65,11 @@ pub(crate) fn block_bytes(from: Kind, to: Kind) -> usize
 
 // No samples yet, and nothing refused.
 fn start() -> Progress
-    ensures { result ≡ record { samples = 0; answer = Rowed.Done } }
+    ensures { result ≡ record { samples = 0; answer = Ok tt } }
 {
     Progress {
         samples: 0,
-        answer: Rowed::Done,
+        answer: Ok(()),
     }
 }
 
@@ -107,7 +105,7 @@ fn run_in<R: Read + Seek, W: Write>(
     let mut watch = begun(rt, w);
     let mut r = State {
         progress: start(),
-        sample: Found::Nothing,
+        sample: None,
         fault: Fault::Nothing,
         turns: u64::MAX,
     };
@@ -175,7 +173,7 @@ fn move_on<W: Write>(
 }
 
 // The sample that was refused, after a block: with Done there is none, and none with 9, bytes left over.
-fn sample_after(r: State, from: Kind, src: &[u8], bytes: usize, after: Progress) -> Found
+fn sample_after(r: State, from: Kind, src: &[u8], bytes: usize, after: Progress) -> Option<Value>
     requires { bytes ≤ length src.now }
     ensures { result ≡ sample_after from r (take bytes src.now) (rowed_outcome after.answer) }
 {
@@ -183,9 +181,9 @@ fn sample_after(r: State, from: Kind, src: &[u8], bytes: usize, after: Progress)
     let kept = r.sample;
     let answer = after.answer;
     match answer {
-        Rowed::Done => Found::Nothing,
-        Rowed::Refused(f) => if f.number == 9 {
-            Found::Nothing
+        Ok(()) => None,
+        Err(f) => if f.number == 9 {
+            None
         } else {
             let i = index_behind(before.samples, f.place);
             found_or(kept, from, &src[..bytes], i)
@@ -201,12 +199,12 @@ fn index_behind(samples: usize, place: usize) -> usize
 }
 
 // What was found before, or else the sample at an index.
-fn found_or(kept: Found, from: Kind, src: &[u8], i: usize) -> Found
+fn found_or(kept: Option<Value>, from: Kind, src: &[u8], i: usize) -> Option<Value>
     ensures { result ≡ found_or kept (sample_at from src.now i) }
 {
     match kept {
-        Found::Is(_) => kept,
-        Found::Nothing => Found::Is(sample_at(from, src, i)),
+        Some(_) => kept,
+        None => Some(sample_at(from, src, i)),
     }
 }
 
@@ -272,13 +270,13 @@ fn write_block<W: Write>(
 {
     let answer = progress.answer;
     match answer {
-        Rowed::Done => {
+        Ok(()) => {
             let n = output_bytes(from, to, bytes);
             match output.write_all(&dst[..n]) {
                 Ok(()) => Fault::Nothing,
                 Err(e) => Fault::Writing(e.raw_os_error().unwrap_or(0)),
             }
         }
-        Rowed::Refused(_) => Fault::Nothing,
+        Err(_) => Fault::Nothing,
     }
 }

@@ -9,8 +9,7 @@ ghost use Rattle.migration.specs.Runs.{Looks};
 use crate::blocks::{Buffer, Fault, block_bytes, large_buffer, turns_left};
 use crate::watches::{Watch, begun, tell};
 use input::{Block, read_block};
-use look::{Found, Seen, look_block};
-use row::Rowed;
+use look::{Seen, look_block};
 use std::io::{Read, Seek};
 use std::rt::Clock;
 use value::Kind;
@@ -32,10 +31,10 @@ fn nothing_seen() -> Seen
         nans: 0,
         infinities: 0,
         minus_zeros: 0,
-        lowest: Found::Nothing,
-        highest: Found::Nothing,
+        lowest: None,
+        highest: None,
         refusable: 0,
-        answer: Rowed::Done,
+        answer: Ok(()),
     }
 }
 

@@ -1,4 +1,3 @@
 pub mod Twelve
 pub mod Owned
 pub mod Shaping
-pub mod Determined

@@ -1,5 +1,6 @@
 -- Records and their shapes: made, set, read. RULES.md: Records, Refusals.
-use Rattle.std.specs.Prelude.{ℕ, suc, ◌-◌, Bool, ◌||◌, List, [], ◌∷◌, ◌++◌, map, eqb, ltb, length, take, replicate, set, get_or}
+use Rattle.value.specs.declared.Refusal.{Refusal}
+use Rattle.std.specs.Prelude.{ℕ, suc, ◌-◌, Bool, ◌||◌, List, [], ◌∷◌, ◌++◌, map, eqb, ltb, length, take, replicate, set, get_or, Result, Err, Ok}
 use Rattle.value.specs.declared.Kind.{Kind}
 use Rattle.value.specs.declared.Kind.TheVariants as kind
 use Rattle.value.specs.declared.Value.{Value}
@@ -13,10 +14,6 @@ use Rattle.record.specs.declared.Place.{Place}
 use Rattle.record.specs.declared.Shape.{Shape}
 use Rattle.record.specs.declared.Recorded.{Recorded}
 use Rattle.record.specs.declared.Shaped.{Shaped}
-use Rattle.record.specs.declared.Made.{Made}
-use Rattle.record.specs.declared.Made.TheVariants as made
-use Rattle.record.specs.declared.Held.{Held}
-use Rattle.record.specs.declared.Held.TheVariants as held
 
 -- ---- records and their fields
 
@@ -51,9 +48,9 @@ bad_count n = eqb n 0 || ltb 12 n
 -- ---- what the answers say in the words of the rules
 
 -- whether there is a result
-abbrev pub made_of : {A : Type 0} → Outcome A → Made
-made_of (gives a) = made.Done
-made_of (refuses number place) = made.Refused (record { number = number; place = place })
+abbrev pub made_of : {A : Type 0} → Outcome A → Result (Unit {0}) Refusal
+made_of (gives a) = Ok tt
+made_of (refuses number place) = Err (record { number = number; place = place })
 
 -- the result, or after a refusal what stands in for it
 abbrev pub result_or : {A : Type 0} → A → Outcome A → A
@@ -67,11 +64,6 @@ recorded_of o = record { outcome = made_of o; «record» = result_or blank o }
 -- a shape beside its outcome
 abbrev pub shaped_of : Outcome Shape → Shaped
 shaped_of o = record { outcome = made_of o; shape = result_or blank_shape o }
-
--- a value that was read
-abbrev pub held_outcome : Held → Outcome Value
-held_outcome (held.Is v) = gives v
-held_outcome (held.Refused f) = refusal_of f
 
 -- ---- making, setting and reading
 

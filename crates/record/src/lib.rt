@@ -34,30 +34,16 @@ pub struct Shape {
     pub count: usize,
 }
 
-// Whether a call that answers with a record did so.
-#[derive(Clone, Copy)]
-pub enum Made {
-    Done,
-    Refused(Refusal),
-}
-
 // A record beside the outcome; after a refusal it is blank: count 0, and u8 0 in every place.
 #[derive(Clone, Copy)]
 pub struct Recorded {
-    pub outcome: Made,
+    pub outcome: Result<(), Refusal>,
     pub record: Record,
 }
 
 // A shape beside the outcome; after a refusal it is blank: count 0, and u8 in every place.
 #[derive(Clone, Copy)]
 pub struct Shaped {
-    pub outcome: Made,
+    pub outcome: Result<(), Refusal>,
     pub shape: Shape,
-}
-
-// What reading a place answers.
-#[derive(Clone, Copy)]
-pub enum Held {
-    Is(Value),
-    Refused(Refusal),
 }

@@ -1,10 +1,10 @@
 // Making records, setting their places and reading them. RULES.md: Records.
 ghost use Rattle.std.specs.Prelude.{◌≡◌, ◌<◌, ltb};
-ghost use Rattle.value.specs.Outcome.{gives, refuses};
+ghost use Rattle.value.specs.Outcome.{gives, refuses, outcome_of};
 ghost use Rattle.record.specs.Record as spec;
-ghost use Rattle.record.specs.Record.{value_at, recorded_of, held_outcome, set_of, get_of, push_of};
+ghost use Rattle.record.specs.Record.{value_at, recorded_of, set_of, get_of, push_of};
 
-use crate::{Field, Held, Made, Record, Recorded};
+use crate::{Field, Record, Recorded};
 use value::{Refusal, Value};
 
 pub fn blank() -> Record
@@ -23,7 +23,7 @@ pub(crate) fn done(r: Record) -> Recorded
     ensures { result ≡ recorded_of (gives r) }
 {
     Recorded {
-        outcome: Made::Done,
+        outcome: Ok(()),
         record: r,
     }
 }
@@ -33,7 +33,7 @@ pub fn refused(number: u8, place: usize) -> Recorded
     ensures { result ≡ recorded_of (refuses number place) }
 {
     Recorded {
-        outcome: Made::Refused(Refusal { number, place }),
+        outcome: Err(Refusal { number, place }),
         record: blank(),
     }
 }
@@ -65,16 +65,16 @@ pub(crate) fn value_at(r: Record, at: usize) -> Value
     v
 }
 
-pub fn get(r: Record, at: usize) -> Held
-    ensures { held_outcome result ≡ get_of r at }
+pub fn get(r: Record, at: usize) -> Result<Value, Refusal>
+    ensures { outcome_of result ≡ get_of r at }
 {
     if is_outside(at) {
-        Held::Refused(Refusal {
+        Err(Refusal {
             number: 11,
             place: 0,
         })
     } else {
-        Held::Is(value_at(r, at))
+        Ok(value_at(r, at))
     }
 }
 

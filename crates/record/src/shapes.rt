@@ -3,7 +3,7 @@ ghost use Rattle.std.specs.Prelude.{◌≡◌, ◌≤◌};
 ghost use Rattle.record.specs.Record.{fields_of, bad_count, kinds_of, blank_shape, shape_for, shaped_of, shape_of};
 
 use crate::makings::value_at;
-use crate::{Made, Place, Record, Shape, Shaped};
+use crate::{Place, Record, Shape, Shaped};
 use value::{Kind, Refusal};
 
 // Rule 11.
@@ -46,7 +46,7 @@ pub fn shape_of(r: Record) -> Shaped
 {
     if bad_count(r.count) {
         Shaped {
-            outcome: Made::Refused(Refusal {
+            outcome: Err(Refusal {
                 number: 11,
                 place: 0,
             }),
@@ -54,7 +54,7 @@ pub fn shape_of(r: Record) -> Shaped
         }
     } else {
         Shaped {
-            outcome: Made::Done,
+            outcome: Ok(()),
             shape: shape_for(r),
         }
     }

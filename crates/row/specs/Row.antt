@@ -1,13 +1,12 @@
 -- Rows of samples, over any conversion of one sample. RULES.md: Rows, Refusals.
-use Rattle.std.specs.Prelude.{ℕ, suc, Bool, false, ◌||◌, cond, List, [], ◌∷◌}
+use Rattle.value.specs.declared.Refusal.{Refusal}
+use Rattle.std.specs.Prelude.{ℕ, suc, Bool, false, ◌||◌, cond, List, [], ◌∷◌, Result, Err, Ok}
 use Rattle.value.specs.Outcome.{Outcome, gives, refuses, refusal_of, Success, done}
-use Rattle.row.specs.declared.Rowed.{Rowed}
-use Rattle.row.specs.declared.Rowed.TheVariants as rowed
 
 -- what the answer says in the words of the rules
-abbrev pub rowed_outcome : Rowed → Outcome Success
-rowed_outcome rowed.Done = gives done
-rowed_outcome (rowed.Refused f) = refusal_of f
+abbrev pub rowed_outcome : Result (Unit {0}) Refusal → Outcome Success
+rowed_outcome (Ok u) = gives done
+rowed_outcome (Err f) = refusal_of f
 
 -- a sample that is refused decides with its own number and its index, else the samples behind it
 abbrev pub sample_then : {B : Type 0} → ℕ → Outcome B → Outcome Success → Outcome Success

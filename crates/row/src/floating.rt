@@ -4,7 +4,6 @@ ghost use Rattle.row.specs.Row.{rowed_outcome};
 ghost use Rattle.row.specs.Convert.{u16_to_f32, convert_answer, convert_exit};
 ghost use Rattle.row.specs.Inner.{as_f32};
 
-use crate::Rowed;
 use value::Refusal;
 
 fn float_all(src: &[u16], dst: &mut [f32])
@@ -18,16 +17,16 @@ fn float_all(src: &[u16], dst: &mut [f32])
     }
 }
 
-pub fn u16_to_f32(src: &[u16], dst: &mut [f32]) -> Rowed
+pub fn u16_to_f32(src: &[u16], dst: &mut [f32]) -> Result<(), Refusal>
     ensures answer { rowed_outcome result ≡ convert_answer u16_to_f32 src.now dst.old }
     ensures exit { dst.new ≡ convert_exit u16_to_f32 src.now dst.old }
 {
     if src.len() != dst.len() {
-        return Rowed::Refused(Refusal {
+        return Err(Refusal {
             number: 9,
             place: 0,
         });
     }
     float_all(src, dst);
-    Rowed::Done
+    Ok(())
 }

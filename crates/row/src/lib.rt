@@ -12,10 +12,3 @@ pub use narrowing::u16_to_u8;
 use value::Refusal;
 pub use wholes::f32_to_u16;
 pub use widening::u8_to_u16;
-
-// What a row operation answers.
-#[derive(Clone, Copy)]
-pub enum Rowed {
-    Done,
-    Refused(Refusal),
-}

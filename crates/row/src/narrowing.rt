@@ -4,7 +4,6 @@ ghost use Rattle.row.specs.Row.{rowed_outcome, first, any};
 ghost use Rattle.row.specs.Convert.{u16_to_u8, convert_answer, convert_exit};
 ghost use Rattle.row.specs.Inner.{is_wide};
 
-use crate::Rowed;
 use value::Refusal;
 
 // Whether a sample is above 255. Every sample is looked at, so that the loop is compiled to vector code.
@@ -62,23 +61,23 @@ fn narrow_all(src: &[u16], dst: &mut [u8])
     }
 }
 
-pub fn u16_to_u8(src: &[u16], dst: &mut [u8]) -> Rowed
+pub fn u16_to_u8(src: &[u16], dst: &mut [u8]) -> Result<(), Refusal>
     ensures answer { rowed_outcome result ≡ convert_answer u16_to_u8 src.now dst.old }
     ensures exit { dst.new ≡ convert_exit u16_to_u8 src.now dst.old }
 {
     if src.len() != dst.len() {
-        return Rowed::Refused(Refusal {
+        return Err(Refusal {
             number: 9,
             place: 0,
         });
     }
     let at = first_wide(src);
     if at < src.len() {
-        return Rowed::Refused(Refusal {
+        return Err(Refusal {
             number: 4,
             place: at,
         });
     }
     narrow_all(src, dst);
-    Rowed::Done
+    Ok(())
 }

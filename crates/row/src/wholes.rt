@@ -5,7 +5,6 @@ ghost use Rattle.row.specs.Row.{rowed_outcome, first, any};
 ghost use Rattle.row.specs.Convert.{f32_to_u16, convert_answer, convert_exit};
 ghost use Rattle.row.specs.Inner.{is_whole, is_misfit, as_u16};
 
-use crate::Rowed;
 use value::Refusal;
 
 // Whether a sample from 0 up to 2^23 is whole: from 2^23 to 2^24 there are whole numbers only, so the sum loses a fraction.
@@ -107,23 +106,23 @@ fn whole_all(src: &[f32], dst: &mut [u16])
     }
 }
 
-pub fn f32_to_u16(src: &[f32], dst: &mut [u16]) -> Rowed
+pub fn f32_to_u16(src: &[f32], dst: &mut [u16]) -> Result<(), Refusal>
     ensures answer { rowed_outcome result ≡ convert_answer f32_to_u16 src.now dst.old }
     ensures exit { dst.new ≡ convert_exit f32_to_u16 src.now dst.old }
 {
     if src.len() != dst.len() {
-        return Rowed::Refused(Refusal {
+        return Err(Refusal {
             number: 9,
             place: 0,
         });
     }
     let at = first_misfit(src);
     if at < src.len() {
-        return Rowed::Refused(Refusal {
+        return Err(Refusal {
             number: refusal_of(src[at]),
             place: at,
         });
     }
     whole_all(src, dst);
-    Rowed::Done
+    Ok(())
 }

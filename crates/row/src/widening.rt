@@ -3,7 +3,6 @@ ghost use Rattle.std.specs.Prelude.{◌≡◌, map, ℕ, length};
 ghost use Rattle.row.specs.Row.{rowed_outcome};
 ghost use Rattle.row.specs.Convert.{u8_to_u16, convert_answer, convert_exit};
 
-use crate::Rowed;
 use value::Refusal;
 
 fn widen_all(src: &[u8], dst: &mut [u16])
@@ -17,16 +16,16 @@ fn widen_all(src: &[u8], dst: &mut [u16])
     }
 }
 
-pub fn u8_to_u16(src: &[u8], dst: &mut [u16]) -> Rowed
+pub fn u8_to_u16(src: &[u8], dst: &mut [u16]) -> Result<(), Refusal>
     ensures answer { rowed_outcome result ≡ convert_answer u8_to_u16 src.now dst.old }
     ensures exit { dst.new ≡ convert_exit u8_to_u16 src.now dst.old }
 {
     if src.len() != dst.len() {
-        return Rowed::Refused(Refusal {
+        return Err(Refusal {
             number: 9,
             place: 0,
         });
     }
     widen_all(src, dst);
-    Rowed::Done
+    Ok(())
 }

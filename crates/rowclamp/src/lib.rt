@@ -8,7 +8,6 @@ ghost use Rattle.rowclamp.specs.Clamp.{clamp_answer, clamp_exit};
 ghost use Rattle.rowclamp.specs.Inner.{is_not_self, clamped_float};
 
 use choose::Range;
-use row::Rowed;
 use value::Refusal;
 
 // Whether a sample is a NaN. Every sample is looked at, so that the loop is compiled to vector code.
@@ -78,7 +77,7 @@ fn clamp_all(row: &mut [f32], lower: f32, upper: f32)
     }
 }
 
-pub fn clamp(row: &mut [f32], range: Range) -> Rowed
+pub fn clamp(row: &mut [f32], range: Range) -> Result<(), Refusal>
     ensures answer { rowed_outcome result ≡ clamp_answer range row.old }
     ensures exit { row.new ≡ clamp_exit range row.old }
 {
@@ -87,15 +86,15 @@ pub fn clamp(row: &mut [f32], range: Range) -> Rowed
     if lower <= upper {
         let at = first_nan(row);
         if at < row.len() {
-            return Rowed::Refused(Refusal {
+            return Err(Refusal {
                 number: 8,
                 place: at,
             });
         }
         clamp_all(row, lower, upper);
-        Rowed::Done
+        Ok(())
     } else {
-        Rowed::Refused(Refusal {
+        Err(Refusal {
             number: 6,
             place: 0,
         })

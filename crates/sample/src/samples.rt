@@ -4,7 +4,7 @@ ghost use Rattle.sample.specs.Samples.{count_of, sample_at};
 ghost use Rattle.sample.specs.Refusals.{bits_to, is_refused, refusal_number};
 
 use crate::bytes::load;
-use convert::{Converted, convert};
+use convert::convert;
 use value::{Kind, Value, bytes_of, value_of};
 
 // How many whole samples there are.
@@ -42,8 +42,8 @@ pub fn is_refused(v: Value, to: Kind) -> bool
     ensures { result ≡ is_refused (bits_to to v) }
 {
     match convert(v, to) {
-        Converted::To(_) => false,
-        Converted::Refused(_) => true,
+        Ok(_) => false,
+        Err(_) => true,
     }
 }
 
@@ -52,7 +52,7 @@ pub fn number_of(v: Value, to: Kind) -> u8
     ensures { result ≡ refusal_number (bits_to to v) }
 {
     match convert(v, to) {
-        Converted::To(_) => 0,
-        Converted::Refused(f) => f.number,
+        Ok(_) => 0,
+        Err(f) => f.number,
     }
 }

@@ -1,4 +1,5 @@
 -- The fewest digits that hold a number are those that the definitions spell.
+use Rattle.std.specs.Prelude.{None, Some}
 use mathlib.Core.Path.{◌≡◌, refl, ap}
 use mathlib.Core.Logic.{inl, inr}
 use mathlib.Core.List.{List, [], ◌∷◌, ◌++◌}
@@ -8,7 +9,6 @@ use native.Mathlib.Omega.{arith}
 use borrow.Author.Tests.{lt-ltb, le-ltb}
 use Rattle.io.specs.Digits.{hex_digit_ascii, last_digits, IsDigitCount}
 use Rattle.float.proofs.Naturals.{lt_or_ge}
-use Rattle.strip.specs.declared.Extreme.TheVariants.{Is, Nothing}
 use Rattle.sheet.specs.Lines.{decimal_in, decimal_digits, extreme_digits}
 
 -- of a number below 10 the one digit, of another the digits of its tenth and one more
@@ -38,10 +38,10 @@ fewest_most b least most n r some h below f = elim (lt_or_ge most r) [
   | inr g ↦ g
 ]
 
-pub hex_spelled : (n r : ℕ) → r ≡ 8 → last_digits 16 r n ≡ extreme_digits (Is n)
+pub hex_spelled : (n r : ℕ) → r ≡ 8 → last_digits 16 r n ≡ extreme_digits (Some n)
 unfolding extreme_digits
 hex_spelled n r e = ap (λ (k : ℕ). last_digits 16 k n) e
 
-pub nothing_spelled : 45 ∷ [] ≡ extreme_digits Nothing
+pub nothing_spelled : 45 ∷ [] ≡ extreme_digits None
 unfolding extreme_digits
 nothing_spelled = refl

@@ -1,10 +1,8 @@
 -- The lines of a sheet, as bytes: nine, each a name, `=`, a number and a line end. RULES.md: Strip sheet.
-use Rattle.std.specs.Prelude.{ℕ, zero, suc, ◌/◌, ◌%◌, cond, List, [], ◌∷◌, ◌++◌, ltb}
+use Rattle.std.specs.Prelude.{ℕ, zero, suc, ◌/◌, ◌%◌, cond, List, [], ◌∷◌, ◌++◌, ltb, Option, None, Some}
 use Prim.Native.Char.{code}
 use Prim.Native.String.{String, [] as none, ◌∷◌ as ◌then◌}
 use Rattle.io.specs.Digits.{hex_digit_ascii, last_digits}
-use Rattle.strip.specs.declared.Extreme.{Extreme}
-use Rattle.strip.specs.declared.Extreme.TheVariants.{Is, Nothing}
 use Rattle.strip.specs.declared.Sheet.{Sheet}
 
 -- the bytes of a word
@@ -22,9 +20,9 @@ unfoldable pub decimal_digits : ℕ → List ℕ
 decimal_digits n = decimal_in 20 n
 
 -- eight hex digits, or `-` where there is none
-unfoldable pub extreme_digits : Extreme → List ℕ
-extreme_digits (Is b) = last_digits 16 8 b
-extreme_digits Nothing = ascii "-"
+unfoldable pub extreme_digits : Option ℕ → List ℕ
+extreme_digits (Some b) = last_digits 16 8 b
+extreme_digits None = ascii "-"
 
 -- a name, what it stands for and a line end
 abbrev pub line_of : List ℕ → List ℕ → List ℕ

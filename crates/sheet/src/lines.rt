@@ -3,7 +3,7 @@ ghost use Rattle.std.specs.Prelude.{◌+◌, ◌≤◌, ◌≡◌, length};
 ghost use Rattle.std.proofs.lemmas.List.Edits.{sets};
 ghost use Rattle.sheet.specs.Lines.{decimal_digits, extreme_digits, line_of, lines_of};
 
-use strip::{Extreme, Sheet};
+use strip::Sheet;
 
 // Room for nine lines, the longest of 31 bytes.
 type Page = [u8; 256];
@@ -44,18 +44,18 @@ fn put_number(out: &mut Page, at: usize, name: &[u8], n: u64) -> usize
 }
 
 // A line with the bits of a sample, or `-` where there is none.
-fn put_extreme(out: &mut Page, at: usize, name: &[u8], f: Extreme) -> usize
+fn put_extreme(out: &mut Page, at: usize, name: &[u8], f: Option<u32>) -> usize
     requires { at + length name.now + 9 ≤ 256 }
     ensures place { (result ≡ at + length (line_of name.now (extreme_digits f))) × (result ≤ at + length name.now + 9) }
     ensures text { out.new ≡ sets out.old at (line_of name.now (extreme_digits f)) }
 {
     match f {
-        Extreme::Is(bits) => {
+        Some(bits) => {
             let mut text = [0u8; 16];
             let k = io::hex(bits as u64, 8, &mut text);
             put_line(out, at, name, &text[..k])
         }
-        Extreme::Nothing => put_line(out, at, name, b"-"),
+        None => put_line(out, at, name, b"-"),
     }
 }
 

@@ -6,7 +6,7 @@ ghost use Rattle.sheet.specs.Inner.{Stepped};
 
 use input::{Block, read_block};
 use std::io::Read;
-use strip::{Extreme, MOST, Sheet, tally_block};
+use strip::{MOST, Sheet, tally_block};
 
 const BUFFER_BYTES: usize = 131072;
 
@@ -33,8 +33,8 @@ fn blank_sheet() -> Sheet
         normal: 0,
         infinite: 0,
         nan: 0,
-        lowest: Extreme::Nothing,
-        highest: Extreme::Nothing,
+        lowest: None,
+        highest: None,
         tail: 0,
     }
 }

@@ -1,4 +1,5 @@
 -- The rules before a record's own call: the first that holds refuses, and past them the library answers.
+use Rattle.std.specs.Prelude.{Result, Err, Ok}
 use mathlib.Core.Path.{◌≡◌, refl, sym, ◌∙◌, ap}
 use mathlib.Core.Bool.{Bool, true, false, ◌||◌}
 use mathlib.Core.List.{List}
@@ -7,17 +8,15 @@ use lib.Dec.{ltb}
 use lib.ListN.{length}
 use borrow.Author.Tests.{lt-ltb, le-ltb, eq-eqb, ne_eqb, eqb-true, not-false}
 use Rattle.value.specs.declared.Refusal.{Refusal}
-use Rattle.value.specs.Outcome.{Outcome, gives, refuses, refuse_if, lent_after}
+use Rattle.value.specs.Outcome.{Outcome, gives, refuses, refuse_if, lent_after, outcome_of}
 use Rattle.value.proofs.Outcomes.{given_fills}
 use Rattle.record.specs.declared.Record.{Record}
 use Rattle.record.specs.declared.Recorded.{Recorded}
 use Rattle.record.specs.declared.Shape.{Shape}
-use Rattle.record.specs.declared.Made.TheVariants as made
 use Rattle.record.specs.Record.{bad_count, recorded_of}
 use Rattle.lexical.specs.Lexical.{compare_of}
 use Rattle.float.proofs.Tests.{neither}
-use Rattle.key.specs.declared.Written.{Written}
-use Rattle.key.specs.Key.{written_outcome, write_of, write_exit, read_of}
+use Rattle.key.specs.Key.{write_of, write_exit, read_of}
 use Rattle.key.proofs.ReadSteps.{read_count}
 use Rattle.silamogo.specs.declared.Answer.{Answer}
 use Rattle.silamogo.specs.declared.Measured.{Measured}
@@ -117,8 +116,8 @@ module _ (ns bs old : List ℕ) where
           unfolding key_length
           write_wide h q = refused_so q (rw (← c-is, counted, ← s-is, named, eq-eqb (length ns) (length bs) even) (wide_stop ns bs even i-is _ h))
 
-          pub write_given : length ns ≤ i → {r : Record} → r ≡ record_for (paired_samples ns bs) → (w : Written) (new : List ℕ)
-              → (written_outcome w ≡ write_of r (length old)) × (new ≡ write_exit r old) → {m : Measured} → m ≡ measured_of (written_outcome w) → Left m new
+          pub write_given : length ns ≤ i → {r : Record} → r ≡ record_for (paired_samples ns bs) → (w : Result ℕ Refusal) (new : List ℕ)
+              → (outcome_of w ≡ write_of r (length old)) × (new ≡ write_exit r old) → {m : Measured} → m ≡ measured_of (outcome_of w) → Left m new
           unfolding key_length key_exit write_exit
           write_given h q w new e a =
               let past : write_of (record_for (paired_samples ns bs)) (length old) ≡ key_length ns bs (length old) =
@@ -132,7 +131,7 @@ recorded_back (gives r) = refl
 recorded_back (refuses n p) = refl
 
 module _ (x : Recorded) (old : List ℕ) where
-  module _ (q : x.outcome ≡ made.Done) where
+  module _ (q : x.outcome ≡ Ok tt) where
     pub done_room : {n : ℕ} → Room (recorded_outcome x) n → (x.«record».count ≤ 12) × (n ≡ x.«record».count)
     done_room h = rw q at h
 
@@ -143,7 +142,7 @@ module _ (x : Recorded) (old : List ℕ) where
         let o : recorded_outcome x ≡ gives x.«record» = rw q in
         (rw q, e ∙ sym (given_fills record_bits old o (sym (ap length e) ∙ same)))
 
-  pub refused_bits : (f : Refusal) → x.outcome ≡ made.Refused f → {a : Answer} → a ≡ answered_of (refuses f.number f.place)
+  pub refused_bits : (f : Refusal) → x.outcome ≡ Err f → {a : Answer} → a ≡ answered_of (refuses f.number f.place)
       → (a ≡ answered_of (success_of (recorded_outcome x))) × (old ≡ lent_after record_bits (recorded_outcome x) old)
   refused_bits f q e = (rw q e, rw q)
 

@@ -1,15 +1,14 @@
 -- Nothing in this file has to be believed: it says what private functions compute, and no public contract or theorem reaches it.
-use Rattle.std.specs.Prelude.{ℕ, ◌≤◌, ◌≡◌, Bool, cond}
+use Rattle.value.specs.declared.Refusal.{Refusal}
+use Rattle.std.specs.Prelude.{ℕ, ◌≤◌, ◌≡◌, Bool, cond, Result, Err, Ok}
 use Rattle.value.specs.Outcome.{Outcome, gives, refuses, refusal_of}
 use Rattle.record.specs.declared.Record.{Record}
 use Rattle.record.specs.declared.Recorded.{Recorded}
-use Rattle.record.specs.declared.Made.{Made}
-use Rattle.record.specs.declared.Made.TheVariants as made
 
 -- what a record beside its outcome says
-abbrev pub outcome_beside : Record → Made → Outcome Record
-outcome_beside r made.Done = gives r
-outcome_beside r (made.Refused f) = refusal_of f
+abbrev pub outcome_beside : Record → Result (Unit {0}) Refusal → Outcome Record
+outcome_beside r (Ok u) = gives r
+outcome_beside r (Err f) = refusal_of f
 
 abbrev pub recorded_outcome : Recorded → Outcome Record
 recorded_outcome x = outcome_beside x.«record» x.outcome

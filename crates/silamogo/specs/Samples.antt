@@ -1,9 +1,7 @@
 -- Samples as they pass the boundary: the number of a kind, and bits. RULES.md: The boundary.
-use Rattle.std.specs.Prelude.{ℕ, suc, ◌^◌, Bool, true, false, ◌||◌, cond, List, [], ◌∷◌, ltb, leb, length}
+use Rattle.std.specs.Prelude.{ℕ, suc, ◌^◌, Bool, true, false, ◌||◌, cond, List, [], ◌∷◌, ltb, leb, length, Option, None, Some}
 use Rattle.value.specs.declared.Kind.{Kind}
 use Rattle.value.specs.declared.Kind.TheVariants as kind
-use Rattle.value.specs.declared.KindFound.{KindFound}
-use Rattle.value.specs.declared.KindFound.TheVariants.{Is, Nothing}
 use Rattle.value.specs.declared.Value.{Value}
 use Rattle.value.specs.Kinds.{kind_at, width_of}
 use Rattle.value.specs.Meaning.{value_of}
@@ -13,9 +11,9 @@ use Rattle.silamogo.specs.declared.Sample.{Sample}
 -- ---- kinds
 
 -- no kind was found
-abbrev pub is_nothing : KindFound → Bool
-is_nothing (Is k) = false
-is_nothing Nothing = true
+abbrev pub is_nothing : Option Kind → Bool
+is_nothing (Some k) = false
+is_nothing None = true
 
 -- the number names no kind
 unfoldable pub unnamed : ℕ → Bool
@@ -27,9 +25,9 @@ any_unnamed [] = false
 any_unnamed (n ∷ ns) = unnamed n || any_unnamed ns
 
 -- u8 stands for none
-abbrev pub found_or : KindFound → Kind
-found_or (Is k) = k
-found_or Nothing = kind.U8
+abbrev pub found_or : Option Kind → Kind
+found_or (Some k) = k
+found_or None = kind.U8
 
 -- the kind with the number, where there is one
 unfoldable pub kind_for : ℕ → Kind

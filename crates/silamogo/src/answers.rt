@@ -1,19 +1,11 @@
 // What the libraries answered, as numbers. RULES.md: The boundary.
 ghost use Rattle.std.specs.Prelude.{◌≡◌};
-ghost use Rattle.value.specs.Outcome.{gives, refuses};
-ghost use Rattle.choose.specs.Choose.{chosen_outcome};
-ghost use Rattle.cmp.specs.Compare.{compared_outcome};
-ghost use Rattle.convert.specs.Convert.{converted_outcome};
-ghost use Rattle.key.specs.Key.{written_outcome};
+ghost use Rattle.value.specs.Outcome.{gives, refuses, outcome_of};
 ghost use Rattle.silamogo.specs.Answer.{answered_of, order_number, ordered_of, class_number, sampled_of, measured_of};
 
 use crate::{Answer, Measured, Ordered, Sampled};
-use choose::Chosen;
-use cmp::Compared;
-use convert::Converted;
 use float::{Class, Order};
-use key::Written;
-use value::Value;
+use value::{Refusal, Value};
 
 pub(crate) fn answer_refused(number: u8, place: usize) -> Answer
     ensures { result ≡ answered_of (refuses number place) }
@@ -42,16 +34,16 @@ pub(crate) fn order_refused(number: u8, place: usize) -> Ordered
     }
 }
 
-pub(crate) fn ordered_by(c: Compared) -> Ordered
-    ensures { result ≡ ordered_of (compared_outcome c) }
+pub(crate) fn ordered_by(c: Result<Order, Refusal>) -> Ordered
+    ensures { result ≡ ordered_of (outcome_of c) }
 {
     match c {
-        Compared::Is(o) => Ordered {
+        Ok(o) => Ordered {
             number: 0,
             place: 0,
             order: order_number(o),
         },
-        Compared::Refused(f) => order_refused(f.number, f.place),
+        Err(f) => order_refused(f.number, f.place),
     }
 }
 
@@ -65,16 +57,16 @@ pub(crate) fn measure_refused(number: u8, place: usize) -> Measured
     }
 }
 
-pub(crate) fn measured_by(w: Written) -> Measured
-    ensures { result ≡ measured_of (written_outcome w) }
+pub(crate) fn measured_by(w: Result<usize, Refusal>) -> Measured
+    ensures { result ≡ measured_of (outcome_of w) }
 {
     match w {
-        Written::Length(n) => Measured {
+        Ok(n) => Measured {
             number: 0,
             place: 0,
             length: n,
         },
-        Written::Refused(f) => measure_refused(f.number, f.place),
+        Err(f) => measure_refused(f.number, f.place),
     }
 }
 
@@ -112,20 +104,20 @@ pub(crate) fn sample_refused(number: u8, place: usize) -> Sampled
     }
 }
 
-pub(crate) fn sampled_by(c: Chosen) -> Sampled
-    ensures { result ≡ sampled_of (chosen_outcome c) }
+pub(crate) fn sampled_by(c: Result<Value, Refusal>) -> Sampled
+    ensures { result ≡ sampled_of (outcome_of c) }
 {
     match c {
-        Chosen::Is(v) => sampled(v),
-        Chosen::Refused(f) => sample_refused(f.number, f.place),
+        Ok(v) => sampled(v),
+        Err(f) => sample_refused(f.number, f.place),
     }
 }
 
-pub(crate) fn sampled_into(c: Converted) -> Sampled
-    ensures { result ≡ sampled_of (converted_outcome c) }
+pub(crate) fn sampled_into(c: Result<Value, Refusal>) -> Sampled
+    ensures { result ≡ sampled_of (outcome_of c) }
 {
     match c {
-        Converted::To(v) => sampled(v),
-        Converted::Refused(f) => sample_refused(f.number, f.place),
+        Ok(v) => sampled(v),
+        Err(f) => sample_refused(f.number, f.place),
     }
 }

@@ -8,7 +8,7 @@ ghost use Rattle.silamogo.specs.Inner.{recorded_outcome, Room};
 use crate::answers::{answer_refused, measure_refused, measured_by, order_refused, ordered_by};
 use crate::fields::{any_unnamed, first_wide, put_bits, record_for, shape_for};
 use crate::{Answer, Measured, Ordered};
-use record::{Made, Recorded, bad_count};
+use record::{Recorded, bad_count};
 
 #[unsafe(no_mangle)]
 pub extern "C" fn silamogo_record_compare(
@@ -69,14 +69,14 @@ fn put_read(x: Recorded, bits: &mut [u64]) -> Answer
     let outcome = x.outcome;
     let r = x.record;
     match outcome {
-        Made::Done => {
+        Ok(()) => {
             put_bits(r, bits);
             Answer {
                 number: 0,
                 place: 0,
             }
         }
-        Made::Refused(f) => answer_refused(f.number, f.place),
+        Err(f) => answer_refused(f.number, f.place),
     }
 }
 

@@ -8,18 +8,18 @@ ghost use Rattle.silamogo.specs.Answer.{answered_of, bounds_of};
 use crate::Answer;
 use crate::answers::answer_refused;
 use choose::Range;
-use row::Rowed;
+use value::Refusal;
 
 // What a row operation answered, as numbers.
-fn answer(r: Rowed) -> Answer
+fn answer(r: Result<(), Refusal>) -> Answer
     ensures { result ≡ answered_of (rowed_outcome r) }
 {
     match r {
-        Rowed::Done => Answer {
+        Ok(()) => Answer {
             number: 0,
             place: 0,
         },
-        Rowed::Refused(f) => answer_refused(f.number, f.place),
+        Err(f) => answer_refused(f.number, f.place),
     }
 }
 

@@ -7,14 +7,14 @@ ghost use Rattle.silamogo.specs.Inner.{rule_for};
 ghost use Rattle.silamogo.specs.Single.{not_float};
 
 use crate::Sample;
-use value::{Kind, KindFound, Value};
+use value::{Kind, Value};
 
 pub(crate) fn unnamed(number: u8) -> bool
     ensures { result ≡ spec.unnamed number }
 {
     match value::kind_of_number(number) {
-        KindFound::Is(_) => false,
-        KindFound::Nothing => true,
+        Some(_) => false,
+        None => true,
     }
 }
 
@@ -22,8 +22,8 @@ pub(crate) fn kind_for(number: u8) -> Kind
     ensures { result ≡ kind_for number }
 {
     match value::kind_of_number(number) {
-        KindFound::Is(k) => k,
-        KindFound::Nothing => Kind::U8,
+        Some(k) => k,
+        None => Kind::U8,
     }
 }
 

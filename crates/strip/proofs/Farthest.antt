@@ -1,5 +1,6 @@
 -- The lowest and the highest sample, by places. A NaN's place is the end, which passes the test against no place, so a step goes only to the
 -- place of a number; every number's place passes the test against the end, so the end is where nothing was found.
+use Rattle.std.specs.Prelude.{Option, None, Some}
 use Rattle.std.proofs.Common.{◌≡◌, ℕ, ◌+◌, ◌-◌, ◌*◌, ◌^◌, ◌<◌, ◌≤◌, Bool, true, false, cond, not, ◌&&◌, ◌⊎◌, List, [], ◌∷◌, ◌++◌, take, drop, ℤ, pos}
 use Rattle.std.proofs.Common.{negsuc, refl, ap, ◌∙◌, subst, inl, inr, le_antisymm, add-one, arith, lit<, w32, SFits, to_z, of_z, ltb-false, le-ltb}
 use Rattle.std.proofs.Common.{lt-ltb}
@@ -12,8 +13,6 @@ use Rattle.float.proofs.Place.{pattern_at, pattern_position, mag_position}
 use Rattle.bytewise.specs.Numbers.{from_little_endian}
 use Rattle.sample.specs.Samples.{numbers_in}
 use Rattle.sample.proofs.Samplings.{numbers_last}
-use Rattle.strip.specs.declared.Extreme.{Extreme}
-use Rattle.strip.specs.declared.Extreme.TheVariants.{Is, Nothing}
 use Rattle.strip.specs.Sheet.{extreme_of}
 use Rattle.strip.specs.Inner.{top_end, bottom_end, place_of, farthest_from, gt_z, bits_at, start_at, found_at}
 
@@ -106,8 +105,8 @@ abbrev passes : (ℤ → ℤ → Bool) → ℕ → ℕ → Bool
 passes test b a = not (nan_of 23 8 b) && test (position_of 23 8 b) (position_of 23 8 a)
 
 -- from a sample on one is found, at the place that is reached; a number leads to a number
-abbrev Leads : ℕ → Extreme → ℤ → Type 0
-Leads a f m = (c : ℕ) × (f ≡ Is c) × (m ≡ position_of 23 8 c) × (nan_of 23 8 a ≡ false → nan_of 23 8 c ≡ false)
+abbrev Leads : ℕ → Option ℕ → ℤ → Type 0
+Leads a f m = (c : ℕ) × (f ≡ Some c) × (m ≡ position_of 23 8 c) × (nan_of 23 8 a ≡ false → nan_of 23 8 c ≡ false)
 
 true_or_false : (t : Bool) → (t ≡ true) ⊎ (t ≡ false)
 true_or_false true = inl refl
@@ -119,7 +118,7 @@ module _ {test : ℤ → ℤ → Bool} {end : ℤ} (law : End test end) where
   step_is m b h = elim (true_or_false (nan_of 23 8 b)) [ inl q ↦ rw (q, law.last m h) refl | inr q ↦ rw q refl ]
 
   from_sample : (a : ℕ) (bs : List ℕ) → Place (position_of 23 8 a)
-      → Leads a (extreme_of (passes test) (Is a) bs) (farthest_from test end (position_of 23 8 a) bs)
+      → Leads a (extreme_of (passes test) (Some a) bs) (farthest_from test end (position_of 23 8 a) bs)
   unfolding extreme_of farthest_from
   from_sample a [] h = (a, refl, refl, λ q. q)
   from_sample a (b ∷ bs) h = rw (step_is (position_of 23 8 a) b h) (elim (true_or_false (passes test b a)) [
@@ -131,7 +130,7 @@ module _ {test : ℤ → ℤ → Bool} {end : ℤ} (law : End test end) where
   ])
 
   from_nothing : (bs : List ℕ)
-      → (let m = farthest_from test end end bs in found_at Nothing (test m end) m ≡ extreme_of (passes test) Nothing bs)
+      → (let m = farthest_from test end end bs in found_at None (test m end) m ≡ extreme_of (passes test) None bs)
   unfolding extreme_of farthest_from
   from_nothing [] = rw (law.last end law.place) refl
   from_nothing (b ∷ bs) = elim (true_or_false (nan_of 23 8 b)) [
@@ -140,19 +139,19 @@ module _ {test : ℤ → ℤ → Bool} {end : ℤ} (law : End test end) where
         let l = number_inside b q in
         let s = from_sample b bs (omega arith) in
         rw (q, law.before (position_of 23 8 b) l, s.2, s.1, law.before (position_of 23 8 s.0) (number_inside s.0 (s.3 q)))
-        (ap Is (bits_position s.0))
+        (ap Some (bits_position s.0))
   ]
 
   -- the code's answer, from p to m
-  found_by : (f : Extreme) (bs : List ℕ) {p m : ℤ} → p ≡ start_at end f → Place p → m ≡ farthest_from test end p bs
+  found_by : (f : Option ℕ) (bs : List ℕ) {p m : ℤ} → p ≡ start_at end f → Place p → m ≡ farthest_from test end p bs
       → found_at f (test m end) m ≡ extreme_of (passes test) f bs
-  found_by (Is a) bs from h to =
+  found_by (Some a) bs from h to =
       let s = from_sample a bs (subst Place from h) in
-      rw (to, from, s.2, s.1) (ap Is (bits_position s.0))
-  found_by Nothing bs from h to = rw (to, from) (from_nothing bs)
+      rw (to, from, s.2, s.1) (ap Some (bits_position s.0))
+  found_by None bs from h to = rw (to, from) (from_nothing bs)
 
   -- the machine reads each signed number back from its word
-  pub found_from : (f : Extreme) (bs : List ℕ) {p m : ℤ} {r : Extreme} → p ≡ start_at end f → SFits w32 p → SFits w32 m
+  pub found_from : (f : Option ℕ) (bs : List ℕ) {p m : ℤ} {r : Option ℕ} → p ≡ start_at end f → SFits w32 p → SFits w32 m
       → m ≡ farthest_from test end (to_z w32 (of_z w32 p)) bs → r ≡ found_at f (test (to_z w32 (of_z w32 m)) end) (to_z w32 (of_z w32 m))
       → r ≡ extreme_of (passes test) f bs
   found_from f bs {p} {m} from g k to q =

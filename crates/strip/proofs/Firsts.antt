@@ -1,11 +1,10 @@
 -- The first place that differs: none before it does, and there is none exactly when a scan comes to the end.
+use Rattle.std.specs.Prelude.{Option, None, Some}
 use Rattle.std.proofs.Common.{◌≡◌, ℕ, zero, suc, ◌+◌, ◌<◌, ◌≤◌, Bool, true, false, cond, List, [], ◌∷◌, ◌++◌, length, get_or, sym, refl, ap, inl, inr}
 use Rattle.std.proofs.Common.{le_of_suc-le-suc, not-suc-le-zero, add_assoc, arith, length-append, le-ltb, lt-ltb}
 use Rattle.float.proofs.Naturals.{lt_or_ge}
 use Rattle.row.specs.Row.{first, how_many}
 use Rattle.row.proofs.Scan.{first_le, first_hit, first_none}
-use Rattle.strip.specs.declared.Index.{Index}
-use Rattle.strip.specs.declared.Index.TheVariants.{Is, Nothing}
 use Rattle.strip.specs.Difference.{Pair, is_different, first_in, earlier_of}
 use Rattle.strip.specs.DifferenceTheorem.{FirstDifferent}
 
@@ -62,13 +61,13 @@ module _ {A : Type 0} (test : A → Bool) where
 -- ---- the index of the first place that differs
 
 module _ (before : ℕ) (ps : List Pair) where
-  pub index_found : {i : ℕ} → i ≡ first is_different ps → i < length ps → Is (before + i) ≡ first_in before ps
+  pub index_found : {i : ℕ} → i ≡ first is_different ps → i < length ps → Some (before + i) ≡ first_in before ps
   index_found {i} q h = rw (← q, lt-ltb i (length ps) h)
 
-  pub none_found : {i : ℕ} → i ≡ first is_different ps → length ps ≤ i → Nothing ≡ first_in before ps
+  pub none_found : {i : ℕ} → i ≡ first is_different ps → length ps ≤ i → None ≡ first_in before ps
   none_found {i} q h = rw (← q, le-ltb i (length ps) h)
 
-  pub none_differ : how_many is_different ps ≡ 0 → Nothing ≡ first_in before ps
+  pub none_differ : how_many is_different ps ≡ 0 → None ≡ first_in before ps
   none_differ h = none_found (sym (none_first is_different ps h)) (omega arith)
 
 -- of a place that differs and of none
@@ -85,16 +84,16 @@ first_different ps = elim (lt_or_ge (first is_different ps) (length ps)) [
 
 -- ---- places behind others
 
-pub no_more_found : (f : Index) (before : ℕ) → earlier_of f (first_in before []) ≡ f
+pub no_more_found : (f : Option ℕ) (before : ℕ) → earlier_of f (first_in before []) ≡ f
 unfolding first
-no_more_found (Is n) before = refl
-no_more_found Nothing before = refl
+no_more_found (Some n) before = refl
+no_more_found None before = refl
 
 -- what is found in places behind others, all counted from the same begin
-pub found_joined : (f : Index) (before : ℕ) (ps qs : List Pair)
+pub found_joined : (f : Option ℕ) (before : ℕ) (ps qs : List Pair)
     → earlier_of (earlier_of f (first_in before ps)) (first_in (before + length ps) qs) ≡ earlier_of f (first_in before (ps ++ qs))
-found_joined (Is n) before ps qs = refl
-found_joined Nothing before ps qs = elim (lt_or_ge (first is_different ps) (length ps)) [
+found_joined (Some n) before ps qs = refl
+found_joined None before ps qs = elim (lt_or_ge (first is_different ps) (length ps)) [
   | inl l ↦
       let here = first_here is_different ps qs l in
       rw (here, lt-ltb (first is_different ps) (length ps) l, length-append ps qs, lt-ltb (first is_different ps) (length ps + length qs) (omega arith))
@@ -104,7 +103,7 @@ found_joined Nothing before ps qs = elim (lt_or_ge (first is_different ps) (leng
       (elim (lt_or_ge (first is_different qs) (length qs)) [
         | inl l ↦
             rw (lt-ltb (first is_different qs) (length qs) l, lt-ltb (length ps + first is_different qs) (length ps + length qs) (omega arith))
-            (ap Is (add_assoc before (length ps) (first is_different qs)))
+            (ap Some (add_assoc before (length ps) (first is_different qs)))
         | inr k ↦ rw (le-ltb (first is_different qs) (length qs) k, le-ltb (length ps + first is_different qs) (length ps + length qs) (omega arith))
       ])
 ]

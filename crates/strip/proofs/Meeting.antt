@@ -1,9 +1,9 @@
 -- Two blocks behind others in step are compared as both joined: the places they share follow those before, and every count goes on.
+use Rattle.std.specs.Prelude.{Option}
 use Rattle.std.proofs.Common.{◌≡◌, ℕ, ◌+◌, ◌≤◌, max, List, [], ◌++◌, length, sym, refl, ap, ◌∙◌, append-nil, add_assoc, arith, length-append}
 use Rattle.row.specs.Row.{first, how_many}
 use Rattle.sample.specs.Samples.{numbers_in}
 use Rattle.sample.proofs.Samplings.{length_numbers}
-use Rattle.strip.specs.declared.Index.{Index}
 use Rattle.strip.specs.declared.Difference.{Difference}
 use Rattle.strip.specs.Sheet.{taken_of, taken_in}
 use Rattle.strip.specs.Difference.{is_different, shared, widest_of, first_in, earlier_of, difference_after}
@@ -27,7 +27,7 @@ meets_shared a b c d (left_done h q) = rw (q, append-nil a, shared_left_ends a b
 meets_shared a b c d (right_done h q) = rw (q, append-nil b, shared_right_ends a c b h, none_shared c) (sym (append-nil (shared a b)))
 
 -- what was found, with the places counted on from the left samples
-meets_found : (f : Index) (n : ℕ) (a b c d : List ℕ) → Meets a b c d
+meets_found : (f : Option ℕ) (n : ℕ) (a b c d : List ℕ) → Meets a b c d
     → earlier_of (earlier_of f (first_in n (shared a b))) (first_in (n + length a) (shared c d)) ≡ earlier_of f (first_in n (shared a b ++ shared c d))
 unfolding shared
 meets_found f n a b c d (even h) =

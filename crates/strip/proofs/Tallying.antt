@@ -1,10 +1,10 @@
 -- A block behind what was told before it: its samples are taken, gone over once, and the record has what was found.
+use Rattle.std.specs.Prelude.{Option}
 use Rattle.std.proofs.Common.{◌≡◌, ℕ, ◌+◌, List, ℤ}
 use lib.Signed.{lt_z}
 use Rattle.float.specs.Format.{zero_of, subnormal_of, normal_of, infinite_of, nan_of}
 use Rattle.sample.specs.Samples.{numbers_in, counted}
 use Rattle.sample.proofs.Samplings.{length_numbers}
-use Rattle.strip.specs.declared.Extreme.{Extreme}
 use Rattle.strip.specs.declared.Sheet.{Sheet}
 use Rattle.strip.specs.declared.tallies.Tally.{Tally}
 use Rattle.strip.specs.Sheet.{is_before, is_behind, extreme_of, taken_of, tail_of, sheet_after}
@@ -21,7 +21,7 @@ unfolding tally_of
 tally_is src start stop all zeros subnormals normals infinites nans lowest highest =
     rw (zeros, subnormals, normals, infinites, nans, lowest, highest, all)
 
-pub tallied : (s : Sheet) (src : List ℕ) (low high : ℤ) {n z b m f q t : ℕ} {c : Tally} {l h : Extreme}
+pub tallied : (s : Sheet) (src : List ℕ) (low high : ℤ) {n z b m f q t : ℕ} {c : Tally} {l h : Option ℕ}
     → n ≡ taken_of s.samples src → c ≡ tally_of low high (numbers_in 4 n src)
     → z ≡ counted (s.zero + c.zero) → b ≡ counted (s.subnormal + c.subnormal) → m ≡ counted (s.normal + c.normal)
     → f ≡ counted (s.infinite + c.infinite) → q ≡ counted (s.nan + c.nan)

@@ -1,10 +1,8 @@
 -- Where two masters differ, place by place, by the bits of their samples. RULES.md: Two masters.
-use Rattle.std.specs.Prelude.{ℕ, ◌+◌, max, Bool, cond, not, List, [], ◌∷◌, length, ◌-ℤ◌, ◌==◌, nat_lt, unsigned_abs}
+use Rattle.std.specs.Prelude.{ℕ, ◌+◌, max, Bool, cond, not, List, [], ◌∷◌, length, ◌-ℤ◌, ◌==◌, nat_lt, unsigned_abs, Option, None, Some}
 use Rattle.float.specs.Format.{f32, position_in}
 use Rattle.row.specs.Row.{first, how_many}
 use Rattle.sample.specs.Samples.{counted}
-use Rattle.strip.specs.declared.Index.{Index}
-use Rattle.strip.specs.declared.Index.TheVariants.{Is, Nothing}
 use Rattle.strip.specs.declared.Difference.{Difference}
 use Rattle.strip.specs.Sheet.{taken_in}
 
@@ -37,13 +35,13 @@ widest_of [] = 0
 widest_of (p ∷ ps) = max (distance p) (widest_of ps)
 
 -- the index of the first that differs, behind so many places
-abbrev pub first_in : ℕ → List Pair → Index
-first_in before ps = cond (nat_lt (first is_different ps) (length ps)) (Is (before + first is_different ps)) Nothing
+abbrev pub first_in : ℕ → List Pair → Option ℕ
+first_in before ps = cond (nat_lt (first is_different ps) (length ps)) (Some (before + first is_different ps)) None
 
 -- what was found before stays
-abbrev pub earlier_of : Index → Index → Index
-earlier_of (Is n) f = Is n
-earlier_of Nothing f = f
+abbrev pub earlier_of : Option ℕ → Option ℕ → Option ℕ
+earlier_of (Some n) f = Some n
+earlier_of None f = f
 
 -- ---- a block of each behind what was seen before them
 

@@ -1,12 +1,10 @@
 -- What the theorems on two masters speak of: what the definitions mean in other words, and masters that are compared as blocks.
 -- RULES.md: Two masters.
-use Rattle.std.specs.Prelude.{◌≡◌, ℕ, ◌<◌, ◌≤◌, min, true, false, ◌⊎◌, ◌↔◌, List, [], ◌++◌, length, pos, ◌+ℤ◌, slice_index, slice_index_or}
+use Rattle.std.specs.Prelude.{◌≡◌, ℕ, ◌<◌, ◌≤◌, min, true, false, ◌⊎◌, ◌↔◌, List, [], ◌++◌, length, pos, ◌+ℤ◌, slice_index, slice_index_or, Option, None, Some}
 use Rattle.float.specs.Format.{f32, position_in}
 use Rattle.value.specs.declared.Kind.TheVariants.{F32}
 use Rattle.row.specs.Row.{how_many}
 use Rattle.sample.specs.Samples.{left_of}
-use Rattle.strip.specs.declared.Index.{Index}
-use Rattle.strip.specs.declared.Index.TheVariants.{Is, Nothing}
 use Rattle.strip.specs.declared.Difference.{Difference}
 use Rattle.strip.specs.SheetTheorem.{strip_of}
 use Rattle.strip.specs.Difference.{Pair, is_different, distance, shared, difference_after}
@@ -33,9 +31,9 @@ pub record Largest (ps : List Pair) (w : ℕ) : Type 0 where
   pub none_differs : (w ≡ 0) ↔ (how_many is_different ps ≡ 0)
 
 -- the place there differs, and none before it does; there is none exactly when no place differs
-abbrev pub FirstDifferent : List Pair → Index → Type 0
-FirstDifferent ps Nothing = (i : ℕ) (d : Pair) → i < length ps → is_different (slice_index_or ps i d) ≡ false
-FirstDifferent ps (Is n) =
+abbrev pub FirstDifferent : List Pair → Option ℕ → Type 0
+FirstDifferent ps None = (i : ℕ) (d : Pair) → i < length ps → is_different (slice_index_or ps i d) ≡ false
+FirstDifferent ps (Some n) =
     (n < length ps)
     × ((d : Pair) → is_different (slice_index_or ps n d) ≡ true)
     × ((i : ℕ) (d : Pair) → i < n → is_different (slice_index_or ps i d) ≡ false)
@@ -52,7 +50,7 @@ pub record DifferenceTells (left right : List ℕ) (s : Difference) : Type 0 whe
 
 -- before the first block
 abbrev pub unseen : Difference
-unseen = record { left = 0; right = 0; different = 0; first = Nothing; widest = 0 }
+unseen = record { left = 0; right = 0; different = 0; first = None; widest = 0 }
 
 -- two blocks may follow what was seen of both: behind whole samples, as many of the one as of the other; behind the end of the one that is no longer
 -- than the other, of which whole samples were seen, a block of the other alone

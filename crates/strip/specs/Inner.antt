@@ -1,10 +1,8 @@
--- Nothing in this file has to be believed: it says what private functions compute, and no public contract or theorem reaches it.
-use Rattle.std.specs.Prelude.{ℕ, ◌+◌, ◌-◌, Bool, cond, List, [], ◌∷◌, ℤ, pos, negsuc, int_lt, nat_lt}
+-- None in this file has to be believed: it says what private functions compute, and no public contract or theorem reaches it.
+use Rattle.std.specs.Prelude.{ℕ, ◌+◌, ◌-◌, Bool, cond, List, [], ◌∷◌, ℤ, pos, negsuc, int_lt, nat_lt, Option, None, Some}
 use Rattle.float.specs.Format.{f32, zero_in, subnormal_in, normal_in, infinite_in, nan_in, position_in}
 use Rattle.row.specs.Row.{how_many}
 use Rattle.sample.specs.Samples.{numbers_in}
-use Rattle.strip.specs.declared.Extreme.{Extreme}
-use Rattle.strip.specs.declared.Extreme.TheVariants.{Is, Nothing}
 use Rattle.strip.specs.declared.tallies.Tally.{Tally}
 use Rattle.strip.specs.Difference.{Pair, shared}
 
@@ -46,14 +44,14 @@ tally_of low high bs = record {
 }
 
 -- the position of what was found before, or an end
-abbrev pub start_at : ℤ → Extreme → ℤ
-start_at end (Is a) = position_in f32 a
-start_at end Nothing = end
+abbrev pub start_at : ℤ → Option ℕ → ℤ
+start_at end (Some a) = position_in f32 a
+start_at end None = end
 
 -- the sample at the position that was reached, if there is one
-abbrev pub found_at : Extreme → Bool → ℤ → Extreme
-found_at (Is a) some m = Is (bits_at m)
-found_at Nothing some m = cond some (Is (bits_at m)) Nothing
+abbrev pub found_at : Option ℕ → Bool → ℤ → Option ℕ
+found_at (Some a) some m = Some (bits_at m)
+found_at None some m = cond some (Some (bits_at m)) None
 
 -- ---- two masters
 

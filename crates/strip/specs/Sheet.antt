@@ -1,10 +1,8 @@
 -- What a sheet tells of f32 samples, by their bits. RULES.md: Strip sheet.
-use Rattle.std.specs.Prelude.{ℕ, ◌+◌, ◌-◌, ◌/◌, ◌%◌, min, Bool, cond, not, ◌&&◌, List, [], ◌∷◌, length, int_lt, nat_le}
+use Rattle.std.specs.Prelude.{ℕ, ◌+◌, ◌-◌, ◌/◌, ◌%◌, min, Bool, cond, not, ◌&&◌, List, [], ◌∷◌, length, int_lt, nat_le, Option, None, Some}
 use Rattle.float.specs.Format.{f32, zero_in, subnormal_in, normal_in, infinite_in, nan_in, position_in}
 use Rattle.row.specs.Row.{how_many}
 use Rattle.sample.specs.Samples.{numbers_in, counted}
-use Rattle.strip.specs.declared.Extreme.{Extreme}
-use Rattle.strip.specs.declared.Extreme.TheVariants.{Is, Nothing}
 use Rattle.strip.specs.declared.Sheet.{Sheet}
 
 -- ---- the lowest and the highest, by total order
@@ -18,12 +16,12 @@ abbrev pub is_behind : ℕ → ℕ → Bool
 is_behind b a = not (nan_in f32 b) && int_lt (position_in f32 a) (position_in f32 b)
 
 -- what was found so far, or a sample that passes a test against it; a NaN is never found
-abbrev pub farther_of : (ℕ → ℕ → Bool) → Extreme → ℕ → Extreme
-farther_of test Nothing b = cond (nan_in f32 b) Nothing (Is b)
-farther_of test (Is a) b = cond (test b a) (Is b) (Is a)
+abbrev pub farther_of : (ℕ → ℕ → Bool) → Option ℕ → ℕ → Option ℕ
+farther_of test None b = cond (nan_in f32 b) None (Some b)
+farther_of test (Some a) b = cond (test b a) (Some b) (Some a)
 
 -- the same of samples, one after the other
-unfoldable pub extreme_of : (ℕ → ℕ → Bool) → Extreme → List ℕ → Extreme
+unfoldable pub extreme_of : (ℕ → ℕ → Bool) → Option ℕ → List ℕ → Option ℕ
 extreme_of test f [] = f
 extreme_of test f (b ∷ bs) = extreme_of test (farther_of test f b) bs
 

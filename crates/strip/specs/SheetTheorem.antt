@@ -1,18 +1,16 @@
 -- What the theorems on sheets speak of: an input that is told as blocks, and the classes that are counted. RULES.md: Strip sheet.
-use Rattle.std.specs.Prelude.{◌≡◌, ℕ, ◌+◌, ◌*◌, ◌/◌, ◌<◌, ◌≤◌, min, Bool, true, false, not, ◌↔◌, List, [], ◌∷◌, length, slice_index_or}
+use Rattle.std.specs.Prelude.{◌≡◌, ℕ, ◌+◌, ◌*◌, ◌/◌, ◌<◌, ◌≤◌, min, Bool, true, false, not, ◌↔◌, List, [], ◌∷◌, length, slice_index_or, Option, None, Some}
 use Rattle.float.specs.declared.Class.TheVariants.{Zero, Subnormal, Normal, Infinite, Nan}
 use Rattle.float.specs.Format.{f32, zero_in, subnormal_in, normal_in, infinite_in, nan_in, class_in}
 use Rattle.value.specs.declared.Kind.TheVariants.{F32}
 use Rattle.row.specs.Row.{any, how_many}
 use Rattle.sample.specs.Samples.{numbers_in, joined, WholeBlocks}
-use Rattle.strip.specs.declared.Extreme.{Extreme}
-use Rattle.strip.specs.declared.Extreme.TheVariants.{Is, Nothing}
 use Rattle.strip.specs.declared.Sheet.{Sheet}
 use Rattle.strip.specs.Sheet.{is_before, is_behind, most, sheet_after}
 
 -- before the first sample
 abbrev pub blank : Sheet
-blank = record { samples = 0; zero = 0; subnormal = 0; normal = 0; infinite = 0; nan = 0; lowest = Nothing; highest = Nothing; tail = 0 }
+blank = record { samples = 0; zero = 0; subnormal = 0; normal = 0; infinite = 0; nan = 0; lowest = None; highest = None; tail = 0 }
 
 -- the blocks, one after the other
 abbrev pub sheet_of : Sheet → List (List ℕ) → Sheet
@@ -24,9 +22,9 @@ abbrev pub strip_of : List ℕ → List ℕ
 strip_of bytes = numbers_in 4 (min (length bytes / 4) most) bytes
 
 -- what is found is no NaN, it is one of the samples, and none passes the test against it; nothing is found where all are NaN
-abbrev pub Farthest : (ℕ → ℕ → Bool) → List ℕ → Extreme → Type 0
-Farthest test bs Nothing = any (λ b. not (nan_in f32 b)) bs ≡ false
-Farthest test bs (Is a) = (nan_in f32 a ≡ false) × ((i : ℕ) × (i < length bs) × (slice_index_or bs i a ≡ a)) × (any (λ b. test b a) bs ≡ false)
+abbrev pub Farthest : (ℕ → ℕ → Bool) → List ℕ → Option ℕ → Type 0
+Farthest test bs None = any (λ b. not (nan_in f32 b)) bs ≡ false
+Farthest test bs (Some a) = (nan_in f32 a ≡ false) × ((i : ℕ) × (i < length bs) × (slice_index_or bs i a ≡ a)) × (any (λ b. test b a) bs ≡ false)
 
 -- what is told of a whole input
 pub record SheetTells (bytes : List ℕ) (s : Sheet) : Type 0 where

@@ -6,8 +6,8 @@ ghost use Rattle.strip.specs.Sheet.{most};
 ghost use Rattle.strip.specs.Difference.{Pair, is_different, distance, widest_of, first_in, earlier_of, difference_after};
 ghost use Rattle.strip.specs.Inner.{shifted_of, pairs_in};
 
+use crate::Difference;
 use crate::samples::{one_if, taken, word_at};
-use crate::{Difference, Index};
 use std::num::wrapping_add_u64;
 
 // ---- a place
@@ -102,38 +102,40 @@ fn widest_of<'a>(left: &'a [u8], right: &'a [u8], n: usize, different: u32) -> u
 }
 
 // The index of the first that differs, behind so many places, where so many differ.
-fn first_of<'a>(before: u64, left: &'a [u8], right: &'a [u8], n: usize, different: u32) -> Index
-    requires inside { (before + n ≤ 18446744073709551615) × (4 * n ≤ length left.now) × (4 * n ≤ length right.now) }
-    requires counted { different ≡ how_many is_different (pairs_in n left.now right.now) }
-    ensures { result ≡ first_in before (pairs_in n left.now right.now) }
-{
-    if different == 0 {
-        return Index::Nothing;
-    }
-    let i = find_first(left, right, n);
-    if i < n {
-        Index::Is(before + i as u64)
-    } else {
-        Index::Nothing
-    }
-}
-
-// What was found before, or else what is found now.
-fn earlier<'a>(
-    f: Index,
+fn first_of<'a>(
     before: u64,
     left: &'a [u8],
     right: &'a [u8],
     n: usize,
     different: u32,
-) -> Index
+) -> Option<u64>
+    requires inside { (before + n ≤ 18446744073709551615) × (4 * n ≤ length left.now) × (4 * n ≤ length right.now) }
+    requires counted { different ≡ how_many is_different (pairs_in n left.now right.now) }
+    ensures { result ≡ first_in before (pairs_in n left.now right.now) }
+{
+    if different == 0 {
+        return None;
+    }
+    let i = find_first(left, right, n);
+    if i < n { Some(before + i as u64) } else { None }
+}
+
+// What was found before, or else what is found now.
+fn earlier<'a>(
+    f: Option<u64>,
+    before: u64,
+    left: &'a [u8],
+    right: &'a [u8],
+    n: usize,
+    different: u32,
+) -> Option<u64>
     requires inside { (before + n ≤ 18446744073709551615) × (4 * n ≤ length left.now) × (4 * n ≤ length right.now) }
     requires counted { different ≡ how_many is_different (pairs_in n left.now right.now) }
     ensures { result ≡ earlier_of f (first_in before (pairs_in n left.now right.now)) }
 {
     match f {
-        Index::Is(_) => f,
-        Index::Nothing => first_of(before, left, right, n, different),
+        Some(_) => f,
+        None => first_of(before, left, right, n, different),
     }
 }
 

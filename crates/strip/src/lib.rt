@@ -12,13 +12,6 @@ pub use tallies::tally_block;
 // No more samples than this are told of a strip or a master.
 pub const MOST: u64 = 4294967295;
 
-// A sample by its bits, if there is one.
-#[derive(Clone, Copy)]
-pub enum Extreme {
-    Is(u32),
-    Nothing,
-}
-
 // What was told of samples: how many there were, how many of each class, the lowest and the highest that aren't NaN, and the bytes left over
 // behind them; before the first, none and Nothing.
 #[derive(Clone, Copy)]
@@ -29,16 +22,9 @@ pub struct Sheet {
     pub normal: u64,
     pub infinite: u64,
     pub nan: u64,
-    pub lowest: Extreme,
-    pub highest: Extreme,
+    pub lowest: Option<u32>,
+    pub highest: Option<u32>,
     pub tail: usize,
-}
-
-// The index of a place, if there is one.
-#[derive(Clone, Copy)]
-pub enum Index {
-    Is(u64),
-    Nothing,
 }
 
 // What was seen of two masters: how many samples each has, how many of the places that both have differ, the first of these, and the largest
@@ -48,6 +34,6 @@ pub struct Difference {
     pub left: u64,
     pub right: u64,
     pub different: u64,
-    pub first: Index,
+    pub first: Option<u64>,
     pub widest: u64,
 }

@@ -6,7 +6,7 @@ ghost use Rattle.strip.specs.Sheet.{most, sheet_after};
 ghost use Rattle.strip.specs.Inner.{tally_of, place_of, gt_z, start_at, bits_at, found_at};
 
 use crate::samples::{one_if, taken, word_at};
-use crate::{Extreme, MOST, Sheet};
+use crate::{MOST, Sheet};
 use float::{abs_f32, is_infinite_f32, is_nan_f32, position_f32};
 use std::num::wrapping_add_u64;
 
@@ -107,12 +107,12 @@ fn go_over(src: &[u8], n: usize, lowest: i32, highest: i32) -> Tally
 // ---- the lowest and the highest
 
 // Where the loop starts: at what was found before, or at the end where no sample but a NaN is.
-fn start_at(f: Extreme, end: i32) -> i32
+fn start_at(f: Option<u32>, end: i32) -> i32
     ensures { result ≡ start_at end f }
 {
     match f {
-        Extreme::Is(a) => position_f32(a),
-        Extreme::Nothing => end,
+        Some(a) => position_f32(a),
+        None => end,
     }
 }
 
@@ -127,23 +127,19 @@ fn bits_at(place: i32) -> u32
 }
 
 // What is found where the loop came to; `some` is whether it left the end.
-fn found_at(f: Extreme, some: bool, place: i32) -> Extreme
+fn found_at(f: Option<u32>, some: bool, place: i32) -> Option<u32>
     ensures { result ≡ found_at f some place }
 {
     match f {
-        Extreme::Is(_) => Extreme::Is(bits_at(place)),
-        Extreme::Nothing => found_if(some, place),
+        Some(_) => Some(bits_at(place)),
+        None => found_if(some, place),
     }
 }
 
-fn found_if(some: bool, place: i32) -> Extreme
-    ensures { result ≡ (if some then Extreme.Is (bits_at place) else Extreme.Nothing) }
+fn found_if(some: bool, place: i32) -> Option<u32>
+    ensures { result ≡ (if some then Some (bits_at place) else None) }
 {
-    if some {
-        Extreme::Is(bits_at(place))
-    } else {
-        Extreme::Nothing
-    }
+    if some { Some(bits_at(place)) } else { None }
 }
 
 // ---- a block

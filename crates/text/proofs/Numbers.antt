@@ -1,4 +1,5 @@
 -- Which case of a digit's definition the tests pick, and how a number goes on by one digit.
+use Rattle.std.specs.Prelude.{Option, None, Some}
 use Prim.Native.Nat.{ℕ, ◌+◌, ◌-◌, ◌*◌, ◌/◌, ◌^◌, ◌≤◌, ◌<◌}
 use mathlib.Core.Path.{◌≡◌, refl, sym, ◌∙◌, ap}
 use mathlib.Core.Bool.{Bool, true, false, cond, ◌&&◌, and-false}
@@ -13,9 +14,6 @@ use lib.ListN.{length, get_or, drop, drop_of_length-le}
 use lib.Seq.{drop-cons}
 use Rattle.float.proofs.Naturals.{lt_or_ge}
 use Rattle.float.proofs.Tests.{clash}
-use Rattle.text.specs.declared.Digit.{Digit}
-use Rattle.text.specs.declared.Digit.TheVariants as digit
-use Rattle.text.specs.declared.Number.TheVariants as number
 use Rattle.text.specs.Digits.{within, digit_of, below, digit_in, with_digit, with_word, number_from, hex_of, zero_ahead, decimal_of}
 
 -- ---- a range
@@ -39,59 +37,59 @@ within_high low high n h = leb-true n high (and_right (leb low n) (leb n high) h
 
 -- ---- a digit
 
-pub digit_decimal : (b : ℕ) → 48 ≤ b → b < 58 → digit.Is (b - 48) ≡ digit_of b
+pub digit_decimal : (b : ℕ) → 48 ≤ b → b < 58 → Some (b - 48) ≡ digit_of b
 unfolding digit_of
 digit_decimal b l h = let k : b ≤ 57 = omega arith in simp (within_inside 48 57 b l k)
 
-pub digit_letter : (b : ℕ) → 97 ≤ b → b < 103 → digit.Is (b - 97 + 10) ≡ digit_of b
+pub digit_letter : (b : ℕ) → 97 ≤ b → b < 103 → Some (b - 97 + 10) ≡ digit_of b
 unfolding digit_of
 digit_letter b l h =
     let m : 57 < b = omega arith in
     let k : b ≤ 102 = omega arith in
     simp (within_above 48 57 b m, within_inside 97 102 b l k)
 
-pub digit_below : (b : ℕ) → b < 48 → digit.Nothing ≡ digit_of b
+pub digit_below : (b : ℕ) → b < 48 → None ≡ digit_of b
 unfolding digit_of
 digit_below b h = let k : b < 97 = omega arith in simp (within_below 48 57 b h, within_below 97 102 b k)
 
-pub digit_between : (b : ℕ) → 58 ≤ b → b < 97 → digit.Nothing ≡ digit_of b
+pub digit_between : (b : ℕ) → 58 ≤ b → b < 97 → None ≡ digit_of b
 unfolding digit_of
 digit_between b l h = simp (within_above 48 57 b l, within_below 97 102 b h)
 
-pub digit_above : (b : ℕ) → 103 ≤ b → digit.Nothing ≡ digit_of b
+pub digit_above : (b : ℕ) → 103 ≤ b → None ≡ digit_of b
 unfolding digit_of
 digit_above b l = let k : 57 < b = omega arith in simp (within_above 48 57 b k, within_above 97 102 b l)
 
 -- ---- a digit of a base
 
-pub in_base : (base b : ℕ) {d : ℕ} → digit_of b ≡ digit.Is d → d < base → digit.Is d ≡ digit_in base b
+pub in_base : (base b : ℕ) {d : ℕ} → digit_of b ≡ Some d → d < base → Some d ≡ digit_in base b
 unfolding digit_in
 in_base base b e h = rw (e, lt-ltb _ _ h)
 
-pub above_base : (base b : ℕ) {d : ℕ} → digit_of b ≡ digit.Is d → base ≤ d → digit.Nothing ≡ digit_in base b
+pub above_base : (base b : ℕ) {d : ℕ} → digit_of b ≡ Some d → base ≤ d → None ≡ digit_in base b
 unfolding digit_in
 above_base base b e h = rw (e, le-ltb _ _ h)
 
-pub no_digit : (base b : ℕ) → digit_of b ≡ digit.Nothing → digit.Nothing ≡ digit_in base b
+pub no_digit : (base b : ℕ) → digit_of b ≡ None → None ≡ digit_in base b
 unfolding digit_in
 no_digit base b e = rw e
 
-pub digit_small : (base b : ℕ) {d : ℕ} → digit_in base b ≡ digit.Is d → d < base
+pub digit_small : (base b : ℕ) {d : ℕ} → digit_in base b ≡ Some d → d < base
 unfolding digit_in
 digit_small base b {d} h = found (digit_of b) h
   where
-    by_test : (e : ℕ) (t : Bool) → ltb e base ≡ t → cond t (digit.Is e) digit.Nothing ≡ digit.Is d → d < base
+    by_test : (e : ℕ) (t : Bool) → ltb e base ≡ t → cond t (Some e) None ≡ Some d → d < base
     by_test e true p k = let q : e ≡ d = cc in rw (← q) (ltb-true e base p)
     by_test e false p k = clash cc
 
-    found : (x : Digit) → below base x ≡ digit.Is d → d < base
-    found (digit.Is e) k = by_test e (ltb e base) refl k
-    found digit.Nothing k = clash cc
+    found : (x : Option ℕ) → below base x ≡ Some d → d < base
+    found (Some e) k = by_test e (ltb e base) refl k
+    found None k = clash cc
 
 -- ---- a number
 
 module _ (base : ℕ) (s : List ℕ) (i n : ℕ) where
-  pub number_ends : length s ≤ i → number_from base (drop i s) n ≡ number.Is n
+  pub number_ends : length s ≤ i → number_from base (drop i s) n ≡ Some n
   unfolding number_from
   number_ends h = rw (drop_of_length-le s h)
 
@@ -100,14 +98,14 @@ module _ (base : ℕ) (s : List ℕ) (i n : ℕ) where
   unfolding number_from
   number_next h = rw (drop-cons s i 0 h, add-one)
 
-  pub number_stops : i < length s → digit_in base (get_or s i 0) ≡ digit.Nothing → number_from base (drop i s) n ≡ number.Malformed
-  number_stops h e = number_next h ∙ ap (λ (x : Digit). with_digit x (λ d. with_word (n * base + d) (λ m. number_from base (drop (i + 1) s) m))) e
+  pub number_stops : i < length s → digit_in base (get_or s i 0) ≡ None → number_from base (drop i s) n ≡ None
+  number_stops h e = number_next h ∙ ap (λ (x : Option ℕ). with_digit x (λ d. with_word (n * base + d) (λ m. number_from base (drop (i + 1) s) m))) e
 
-  module _ (d : ℕ) (h : i < length s) (e : digit_in base (get_or s i 0) ≡ digit.Is d) where
+  module _ (d : ℕ) (h : i < length s) (e : digit_in base (get_or s i 0) ≡ Some d) where
     number_grows : number_from base (drop i s) n ≡ with_word (n * base + d) (λ m. number_from base (drop (i + 1) s) m)
-    number_grows = number_next h ∙ ap (λ (x : Digit). with_digit x (λ k. with_word (n * base + k) (λ m. number_from base (drop (i + 1) s) m))) e
+    number_grows = number_next h ∙ ap (λ (x : Option ℕ). with_digit x (λ k. with_word (n * base + k) (λ m. number_from base (drop (i + 1) s) m))) e
 
-    pub number_large : 2 ^ 64 ≤ n * base + d → number_from base (drop i s) n ≡ number.Malformed
+    pub number_large : 2 ^ 64 ≤ n * base + d → number_from base (drop i s) n ≡ None
     number_large l = number_grows ∙ rw (le-ltb _ _ l)
 
     pub number_more : n * base + d < 2 ^ 64 → number_from base (drop i s) n ≡ number_from base (drop (i + 1) s) (n * base + d)
@@ -128,24 +126,24 @@ module _ (s : List ℕ) where
   unfolding hex_of
   hex_counted h l = let k : 1 ≤ length s = omega arith in simp (within_inside 1 16 (length s) k l)
 
-  pub hex_empty : length s ≡ 0 → hex_of s ≡ number.Malformed
+  pub hex_empty : length s ≡ 0 → hex_of s ≡ None
   unfolding hex_of
   hex_empty h = let k : length s < 1 = omega arith in simp (within_below 1 16 (length s) k)
 
-  pub hex_long : 16 < length s → hex_of s ≡ number.Malformed
+  pub hex_long : 16 < length s → hex_of s ≡ None
   unfolding hex_of
   hex_long h = simp (within_above 1 16 (length s) h)
 
-  pub decimal_empty : length s ≡ 0 → decimal_of s ≡ number.Malformed
+  pub decimal_empty : length s ≡ 0 → decimal_of s ≡ None
   unfolding decimal_of
   decimal_empty h = rw (eq-eqb _ _ h)
 
   module _ (nonempty : length s ≡ 0 → ⊥) where
-    decimal_tested : decimal_of s ≡ cond (zero_ahead s) number.Malformed (number_from 10 s 0)
+    decimal_tested : decimal_of s ≡ cond (zero_ahead s) None (number_from 10 s 0)
     unfolding decimal_of
     decimal_tested = rw (ne_eqb _ _ nonempty)
 
-    pub decimal_padded : 1 < length s → eqb (get_or s 0 0) 48 ≡ true → decimal_of s ≡ number.Malformed
+    pub decimal_padded : 1 < length s → eqb (get_or s 0 0) 48 ≡ true → decimal_of s ≡ None
     decimal_padded h e = decimal_tested ∙ rw (lt-ltb _ _ h, e)
 
     pub decimal_unpadded : 1 < length s → eqb (get_or s 0 0) 48 ≡ false → decimal_of s ≡ number_from 10 s 0

@@ -1,7 +1,6 @@
 -- The names of the kinds and their hex digits.
-use Rattle.std.specs.Prelude.{ℕ, ◌/◌, List, [], ◌∷◌}
+use Rattle.std.specs.Prelude.{ℕ, ◌/◌, List, [], ◌∷◌, Option}
 use Rattle.value.specs.declared.Kind.{Kind}
-use Rattle.value.specs.declared.KindFound.{KindFound}
 use Rattle.value.specs.Kinds.{kind_at, width_of}
 use Rattle.text.specs.Words.{number_among}
 
@@ -22,7 +21,7 @@ kind_names =
     ∷ []
 
 -- the kind at the place that the name has
-unfoldable pub kind_named : List ℕ → KindFound
+unfoldable pub kind_named : List ℕ → Option Kind
 kind_named s = kind_at (number_among s kind_names)
 
 -- four bits to a digit

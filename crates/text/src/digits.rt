@@ -2,15 +2,13 @@
 ghost use Rattle.std.specs.Prelude.{◌≡◌};
 ghost use Rattle.text.specs.Digits.{digit_of, digit_in, char_of, number_from, hex_of, decimal_of};
 
-use crate::{Digit, Number};
-
-pub fn hex_digit(b: u8) -> Digit
+pub fn hex_digit(b: u8) -> Option<u8>
     ensures { result ≡ digit_of b }
 {
     match b {
-        b'0'..=b'9' => Digit::Is(b - b'0'),
-        b'a'..=b'f' => Digit::Is(b - b'a' + 10),
-        _ => Digit::Nothing,
+        b'0'..=b'9' => Some(b - b'0'),
+        b'a'..=b'f' => Some(b - b'a' + 10),
+        _ => None,
     }
 }
 
@@ -23,61 +21,57 @@ pub fn hex_char(n: u8) -> u8
 }
 
 // The digits of a base are the hex digits below it.
-fn digit_in(base: u8, b: u8) -> Digit
+fn digit_in(base: u8, b: u8) -> Option<u8>
     ensures { result ≡ digit_in base b }
 {
-    let Digit::Is(d) = hex_digit(b) else {
-        return Digit::Nothing;
+    let Some(d) = hex_digit(b) else {
+        return None;
     };
-    if d < base {
-        Digit::Is(d)
-    } else {
-        Digit::Nothing
-    }
+    if d < base { Some(d) } else { None }
 }
 
 // All of s, the high digit first. A number of 2^64 or more is malformed.
-fn number_in(base: u8, s: &[u8]) -> Number
+fn number_in(base: u8, s: &[u8]) -> Option<u64>
     ensures { result ≡ number_from base s.now 0 }
 {
     let mut n: u64 = 0;
     let mut i = 0;
     while i < s.len() {
-        let Digit::Is(d) = digit_in(base, s[i]) else {
-            return Number::Malformed;
+        let Some(d) = digit_in(base, s[i]) else {
+            return None;
         };
         if (u64::MAX - d as u64) / (base as u64) < n {
-            return Number::Malformed;
+            return None;
         }
         n = n * base as u64 + d as u64;
         i += 1;
     }
-    Number::Is(n)
+    Some(n)
 }
 
 // 1 to 16 digits.
-pub fn hex_number(s: &[u8]) -> Number
+pub fn hex_number(s: &[u8]) -> Option<u64>
     ensures { result ≡ hex_of s.now }
 {
     if s.len() == 0 {
-        return Number::Malformed;
+        return None;
     }
     if 16 < s.len() {
-        return Number::Malformed;
+        return None;
     }
     number_in(16, s)
 }
 
 // One digit or more, and no zero stands before other digits.
 #[tactic(auto, using(crate::proofs::Numbers::decimal_rest))]
-pub fn decimal_number(s: &[u8]) -> Number
+pub fn decimal_number(s: &[u8]) -> Option<u64>
     ensures { result ≡ decimal_of s.now }
 {
     if s.len() == 0 {
-        return Number::Malformed;
+        return None;
     }
     if 1 < s.len() && s[0] == b'0' {
-        return Number::Malformed;
+        return None;
     }
     number_in(10, s)
 }

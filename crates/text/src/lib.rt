@@ -9,17 +9,3 @@ mod words;
 pub use digits::{decimal_number, hex_char, hex_digit, hex_number};
 pub use names::{KIND_NAMES, digits_of, kind_named};
 pub use words::{after, before, nth_word, place_of, word_number};
-
-// The value of a hex digit.
-#[derive(Clone, Copy)]
-pub enum Digit {
-    Is(u8),
-    Nothing,
-}
-
-// The number that digits spell.
-#[derive(Clone, Copy)]
-pub enum Number {
-    Is(u64),
-    Malformed,
-}

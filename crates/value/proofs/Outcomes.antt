@@ -7,7 +7,10 @@ use lib.ListN.{length, drop}
 use lib.Seq.{drop-length}
 use Rattle.float.proofs.Tests.{clash}
 use Rattle.value.specs.declared.Refusal.{Refusal}
-use Rattle.value.specs.Outcome.{Outcome, gives, refuses, refuse_if, refusal_of, mapped, lent_after}
+use Rattle.std.specs.Prelude.{Result, Ok, Err}
+use Rattle.std.specs.Result.{IsErrAnd}
+use Rattle.std.proofs.lemmas.Result.{err_from_is_err_and}
+use Rattle.value.specs.Outcome.{Outcome, gives, refuses, refuse_if, refusal_of, outcome_of, mapped, lent_after}
 
 made : ℕ → ℕ → Refusal
 made number place = record { number = number; place = place }
@@ -20,6 +23,19 @@ pub refusal_injective : {A : Type 0} (f g : Refusal) → ◌≡◌ {A = Outcome 
 refusal_injective f g h =
     let both : made f.number f.place ≡ made g.number g.place = cc in
     sym (made_of f) ∙ both ∙ made_of g
+
+-- two answers with one outcome are one answer
+pub outcome_injective : {A : Type 0} (r s : Result A Refusal) → outcome_of r ≡ outcome_of s → r ≡ s
+outcome_injective (Ok a) (Ok b) h = cc
+outcome_injective (Ok a) (Err g) h = cc
+outcome_injective (Err f) (Ok b) h = cc
+outcome_injective (Err f) (Err g) h = ap Err (refusal_injective f g h)
+
+-- what a `?` passes on is the same refusal
+pub passed_on : {A : Type 0} (r : Result A Refusal) (f : Refusal) → IsErrAnd r (λ g. g ≡ f) → ◌≡◌ {A = Outcome A} (outcome_of r) (refusal_of f)
+passed_on r f h =
+    let p = err_from_is_err_and r h in
+    ap outcome_of p.1 ∙ ap refusal_of p.2
 
 -- a result came past the rule
 pub refuse_passes : {A : Type 0} (t : Bool) (n p : ℕ) (next : Outcome A) (a : A) → refuse_if t n p next ≡ gives a → (t ≡ false) × (next ≡ gives a)

@@ -1,5 +1,5 @@
 -- The kinds: their list, their numbers, their forms. RULES.md: The kinds.
-use Rattle.std.specs.Prelude.{ℕ, zero, suc, ◌+◌, ◌/◌, Bool, true, false, List, [], ◌∷◌}
+use Rattle.std.specs.Prelude.{ℕ, zero, suc, ◌+◌, ◌/◌, Bool, true, false, List, [], ◌∷◌, Option, None, Some}
 use Rattle.float.specs.Format.{Format, f16, f32, f64, fraction_of, exponent_of}
 use Rattle.value.specs.declared.Kind.{Kind}
 use Rattle.value.specs.declared.Kind.TheVariants as kind
@@ -7,8 +7,6 @@ use Rattle.value.specs.declared.Value.{Value}
 use Rattle.value.specs.declared.Value.TheVariants.{U8, U16, U32, U64, I8, I16, I32, I64, F32, F64, F16}
 use Rattle.value.specs.declared.Layout.{Layout}
 use Rattle.value.specs.declared.Layout.TheVariants as layout
-use Rattle.value.specs.declared.KindFound.{KindFound}
-use Rattle.value.specs.declared.KindFound.TheVariants.{Is, Nothing}
 
 -- the kind of a value is its case
 abbrev pub kind_of : Value → Kind
@@ -43,13 +41,13 @@ abbrev pub all_kinds : List Kind
 all_kinds = kind.U8 ∷ kind.U16 ∷ kind.U32 ∷ kind.U64 ∷ kind.I8 ∷ kind.I16 ∷ kind.I32 ∷ kind.I64 ∷ kind.F32 ∷ kind.F64 ∷ kind.F16 ∷ []
 
 -- the kind at a place of a list, if there is one
-abbrev pub kind_in : List Kind → ℕ → KindFound
-kind_in [] n = Nothing
-kind_in (k ∷ ks) zero = Is k
+abbrev pub kind_in : List Kind → ℕ → Option Kind
+kind_in [] n = None
+kind_in (k ∷ ks) zero = Some k
 kind_in (k ∷ ks) (suc n) = kind_in ks n
 
 -- the kind with a number
-abbrev pub kind_at : ℕ → KindFound
+abbrev pub kind_at : ℕ → Option Kind
 kind_at n = kind_in all_kinds n
 
 -- the three forms: unsigned and signed of a number of bits, and a float format

@@ -1,5 +1,5 @@
 -- What a call answers, in the words of the rules: a result, or the number and the place of a refusal. RULES.md: Refusals.
-use Rattle.std.specs.Prelude.{ℕ, Bool, true, false, List, ◌++◌, length, drop}
+use Rattle.std.specs.Prelude.{ℕ, Bool, true, false, List, ◌++◌, length, drop, Result, Ok, Err}
 use Rattle.value.specs.declared.Refusal.{Refusal}
 
 -- a result, or a number and a place
@@ -19,6 +19,11 @@ refuse_if false number place next = next
 -- a refusal of the code
 abbrev pub refusal_of : {A : Type 0} → Refusal → Outcome A
 refusal_of f = refuses f.number f.place
+
+-- what an answer of the code says in these words
+abbrev pub outcome_of : {A : Type 0} → Result A Refusal → Outcome A
+outcome_of (Ok a) = gives a
+outcome_of (Err f) = refusal_of f
 
 -- what follows a result; a refusal stays
 abbrev pub and_then : {A B : Type 0} → Outcome A → (A → Outcome B) → Outcome B

@@ -2,7 +2,7 @@
 ghost use Rattle.std.specs.Prelude.{◌≡◌, ◌+◌, ◌≤◌, ◌<◌};
 ghost use Rattle.value.specs.Kinds.{kind_of, kind_number, kind_at, form_of, layout_for, width_of, bytes_of};
 
-use crate::{Kind, KindFound, Layout, Value};
+use crate::{Kind, Layout, Value};
 
 pub fn kind_of(v: Value) -> Kind
     ensures { result ≡ kind_of v }
@@ -79,7 +79,7 @@ pub fn bytes_of(k: Kind) -> usize
 // The kinds of a form in the order of their numbers.
 fn unsigned_kind(step: u8) -> Kind
     requires { step < 4 }
-    ensures { KindFound.Is result ≡ kind_at step }
+    ensures { Some result ≡ kind_at step }
 {
     match step {
         0 => Kind::U8,
@@ -91,7 +91,7 @@ fn unsigned_kind(step: u8) -> Kind
 
 fn signed_kind(step: u8) -> Kind
     requires { step < 4 }
-    ensures { KindFound.Is result ≡ kind_at (4 + step) }
+    ensures { Some result ≡ kind_at (4 + step) }
 {
     match step {
         0 => Kind::I8,
@@ -103,7 +103,7 @@ fn signed_kind(step: u8) -> Kind
 
 fn float_kind(step: u8) -> Kind
     requires { step < 3 }
-    ensures { KindFound.Is result ≡ kind_at (8 + step) }
+    ensures { Some result ≡ kind_at (8 + step) }
 {
     match step {
         0 => Kind::F32,
@@ -112,13 +112,13 @@ fn float_kind(step: u8) -> Kind
     }
 }
 
-pub fn kind_of_number(n: u8) -> KindFound
+pub fn kind_of_number(n: u8) -> Option<Kind>
     ensures { result ≡ kind_at n }
 {
     match n {
-        0..=3 => KindFound::Is(unsigned_kind(n)),
-        4..=7 => KindFound::Is(signed_kind(n - 4)),
-        8..=10 => KindFound::Is(float_kind(n - 8)),
-        _ => KindFound::Nothing,
+        0..=3 => Some(unsigned_kind(n)),
+        4..=7 => Some(signed_kind(n - 4)),
+        8..=10 => Some(float_kind(n - 8)),
+        _ => None,
     }
 }

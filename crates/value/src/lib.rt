@@ -9,7 +9,7 @@ mod patterns;
 pub use kinds::{bytes_of, kind_number, kind_of, kind_of_number, layout_of, width_of};
 pub use patterns::{bits_f32, bits_f64, bits_of, f32_value, f64_value, value_of};
 
-#[derive(Clone, Copy)]
+#[derive(Clone, Copy, Debug, PartialEq, Eq)]
 pub enum Kind {
     U8,
     U16,
@@ -25,7 +25,7 @@ pub enum Kind {
 }
 
 // A kind's form: how many bits, and of a float how many of them are the fraction.
-#[derive(Clone, Copy)]
+#[derive(Clone, Copy, Debug, PartialEq, Eq)]
 pub enum Layout {
     Unsigned(u8),
     Signed(u8),
@@ -49,15 +49,9 @@ pub enum Value {
 }
 
 // The number of the rule that refused, and the place of the first field or sample that it met.
-#[derive(Clone, Copy)]
+#[derive(Clone, Copy, Debug, PartialEq, Eq)]
 pub struct Refusal {
     pub number: u8,
     pub place: usize,
 }
 
-// The kind with a number, if there is one.
-#[derive(Clone, Copy)]
-pub enum KindFound {
-    Is(Kind),
-    Nothing,
-}

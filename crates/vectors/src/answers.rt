@@ -2,7 +2,6 @@
 ghost use Rattle.std.specs.Prelude.{◌≤◌};
 
 use crate::output::{Buffer, put, put_byte, put_decimal, put_hex};
-use cmp::Compared;
 use float::{Class, Order};
 use text::{KIND_NAMES, digits_of, nth_word};
 use value::{Refusal, Value, bits_of, kind_number, kind_of};
@@ -22,10 +21,10 @@ pub enum Answer {
     Malformed,
 }
 
-pub(crate) fn compared(c: Compared) -> Answer {
+pub(crate) fn compared(c: Result<Order, Refusal>) -> Answer {
     match c {
-        Compared::Is(o) => Answer::Order(o),
-        Compared::Refused(f) => Answer::Refused(f),
+        Ok(o) => Answer::Order(o),
+        Err(f) => Answer::Refused(f),
     }
 }
 

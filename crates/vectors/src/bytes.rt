@@ -3,7 +3,7 @@ ghost use Rattle.std.specs.Prelude.{◌≡◌, ◌*◌, ◌≤◌, length, take}
 
 use crate::counts::{Count, counted, uncounted};
 use crate::output::{Buffer, put_byte, put_hex};
-use text::{Number, hex_number, word_number};
+use text::{hex_number, word_number};
 
 // No string of a line is longer.
 pub(crate) type Bytes = [u8; 512];
@@ -33,7 +33,7 @@ fn pairs_in(s: &[u8], n: usize, bytes: &mut Bytes) -> Count
     let mut i = 0;
     while i < n {
         let at = i * 2;
-        let Number::Is(b) = hex_number(&s[at..at + 2]) else {
+        let Some(b) = hex_number(&s[at..at + 2]) else {
             return uncounted();
         };
         bytes[i] = (b % 256) as u8;

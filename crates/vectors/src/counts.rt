@@ -1,7 +1,7 @@
 // Numbers of things that a text has or asks for, within what there is room for.
 ghost use Rattle.std.specs.Prelude.{◌≡◌, ◌≤◌};
 
-use text::{Number, decimal_number};
+use text::decimal_number;
 
 // How many; none where the text is not of the grammar.
 #[derive(Clone, Copy)]
@@ -14,7 +14,7 @@ pub struct Count {
 pub(crate) fn count_in(most: usize, s: &[u8]) -> Count
     ensures { result.count ≤ most }
 {
-    let Number::Is(n) = decimal_number(s) else {
+    let Some(n) = decimal_number(s) else {
         return uncounted();
     };
     if (most as u64) < n {

@@ -7,10 +7,9 @@ use crate::counts::count_in;
 use crate::output::{Buffer, put_byte, put_decimal};
 use crate::records::record_in;
 use crate::rows::{RowF32, RowU8, RowU16, fill, is_filled};
-use key::Written;
 use record::Record;
-use text::{Number, after, before, decimal_number};
-use value::Kind;
+use text::{after, before, decimal_number};
+use value::{Kind, Refusal};
 
 // A record, and how many bytes of the row of bytes are lent for its key.
 pub(crate) fn put_write_line(
@@ -51,12 +50,12 @@ fn put_write(
     let w = written(r, u8s, room);
     let filled = is_filled(Kind::U8, room, u8s, u16s, f32s);
     match w {
-        Written::Length(n) => put_key(output, used, n, front(u8s, room)),
-        Written::Refused(f) => put_answer(output, used, unless_changed(Answer::Refused(f), filled)),
+        Ok(n) => put_key(output, used, n, front(u8s, room)),
+        Err(f) => put_answer(output, used, unless_changed(Answer::Refused(f), filled)),
     }
 }
 
-fn written(r: Record, buffer: &mut [u8], room: usize) -> Written
+fn written(r: Record, buffer: &mut [u8], room: usize) -> Result<usize, Refusal>
     requires { room ≤ length buffer.old }
 {
     key::write(r, &mut buffer[..room])
@@ -77,7 +76,7 @@ pub(crate) fn put_prefix_line(output: &mut Buffer, used: usize, rest: &[u8], hig
     requires { used ≤ 65536 }
     ensures { result ≤ 65536 }
 {
-    let Number::Is(k) = decimal_number(before(b' ', rest)) else {
+    let Some(k) = decimal_number(before(b' ', rest)) else {
         return put_answer(output, used, Answer::Malformed);
     };
     let rows = after(b' ', rest);

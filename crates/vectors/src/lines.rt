@@ -4,17 +4,14 @@ ghost use Rattle.std.specs.Prelude.{◌≤◌};
 
 use crate::answers::{Answer, compared, put_answer};
 use crate::key_lines::{put_prefix_line, put_write_line};
-use crate::operands::{OneValue, TwoValues, ValueAndKind, value_and_kind_in, value_in, values_in};
+use crate::operands::{value_and_kind_in, value_in, values_in};
 use crate::output::Buffer;
 use crate::record_lines::{put_record_answer, read_line, record_choice_line, record_compare_line};
 use crate::row_lines::{put_row_answer, row_clamp_line, row_line};
 use crate::rows::{RowF32, RowU8, RowU16};
-use choose::Chosen;
-use cmp::Tested;
-use convert::Converted;
 use float::{class_f16, class_f32, class_f64};
 use text::{after, before, word_number};
-use value::{Value, bits_f32, bits_f64};
+use value::{Refusal, Value, bits_f32, bits_f64};
 
 // A line is a word, a space, and the operands that the word takes.
 pub(crate) fn put_reply(
@@ -78,7 +75,7 @@ fn answer_to(word: &[u8], rest: &[u8]) -> Answer {
 
 // Only a float has a class.
 fn class_line(rest: &[u8]) -> Answer {
-    let OneValue::Is(v) = value_in(rest) else {
+    let Some(v) = value_in(rest) else {
         return Answer::Malformed;
     };
     match v {
@@ -90,17 +87,17 @@ fn class_line(rest: &[u8]) -> Answer {
 }
 
 fn clamp_line(rest: &[u8]) -> Answer {
-    let OneValue::Is(v) = value_in(before(b' ', rest)) else {
+    let Some(v) = value_in(before(b' ', rest)) else {
         return Answer::Malformed;
     };
-    let TwoValues::Are(lower, upper) = values_in(after(b' ', rest)) else {
+    let Some((lower, upper)) = values_in(after(b' ', rest)) else {
         return Answer::Malformed;
     };
     chosen(choose::clamp(v, lower, upper))
 }
 
 fn convert_line(rest: &[u8]) -> Answer {
-    let ValueAndKind::Are(v, to) = value_and_kind_in(rest) else {
+    let Some((v, to)) = value_and_kind_in(rest) else {
         return Answer::Malformed;
     };
     converted(convert::convert(v, to))
@@ -108,7 +105,7 @@ fn convert_line(rest: &[u8]) -> Answer {
 
 // The words that take two values.
 fn pair_line(word: &[u8], rest: &[u8]) -> Answer {
-    let TwoValues::Are(a, b) = values_in(rest) else {
+    let Some((a, b)) = values_in(rest) else {
         return Answer::Malformed;
     };
     match word_number(word, b"compare total min max") {
@@ -133,23 +130,23 @@ fn test_of(word: &[u8], a: Value, b: Value) -> Answer {
     tested(t)
 }
 
-fn tested(t: Tested) -> Answer {
+fn tested(t: Result<bool, Refusal>) -> Answer {
     match t {
-        Tested::Is(yes) => Answer::Test(yes),
-        Tested::Refused(f) => Answer::Refused(f),
+        Ok(yes) => Answer::Test(yes),
+        Err(f) => Answer::Refused(f),
     }
 }
 
-fn chosen(c: Chosen) -> Answer {
+fn chosen(c: Result<Value, Refusal>) -> Answer {
     match c {
-        Chosen::Is(v) => Answer::Value(v),
-        Chosen::Refused(f) => Answer::Refused(f),
+        Ok(v) => Answer::Value(v),
+        Err(f) => Answer::Refused(f),
     }
 }
 
-fn converted(c: Converted) -> Answer {
+fn converted(c: Result<Value, Refusal>) -> Answer {
     match c {
-        Converted::To(v) => Answer::Value(v),
-        Converted::Refused(f) => Answer::Refused(f),
+        Ok(v) => Answer::Value(v),
+        Err(f) => Answer::Refused(f),
     }
 }

@@ -5,8 +5,9 @@ use crate::answers::{Answer, compared, put_answer};
 use crate::bytes::{Bytes, bytes_in, front};
 use crate::output::Buffer;
 use crate::records::{put_record, records_in, shape_in};
-use record::{Made, Record, Recorded};
+use record::{Record, Recorded};
 use text::{after, before};
+use value::Refusal;
 
 // An answer, and where it is a record: the record.
 #[derive(Clone, Copy)]
@@ -65,10 +66,10 @@ fn recorded(x: Recorded) -> RecordAnswer {
     }
 }
 
-fn made(m: Made) -> Answer {
+fn made(m: Result<(), Refusal>) -> Answer {
     match m {
-        Made::Done => Answer::Record,
-        Made::Refused(f) => Answer::Refused(f),
+        Ok(()) => Answer::Record,
+        Err(f) => Answer::Refused(f),
     }
 }
 

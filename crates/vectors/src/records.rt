@@ -3,11 +3,11 @@
 ghost use Rattle.std.specs.Prelude.{◌≤◌, ◌<◌};
 
 use crate::answers::put_value;
-use crate::operands::{OneValue, value_in};
+use crate::operands::value_in;
 use crate::output::{Buffer, put_comma};
-use record::{Field, Held, Place, Record, Shape};
+use record::{Field, Place, Record, Shape};
 use text::{after, before, kind_named, word_number};
-use value::{Kind, KindFound, Value, kind_of, value_of};
+use value::{Kind, Value, kind_of, value_of};
 
 // A record, and whether the text is one.
 #[derive(Clone, Copy)]
@@ -75,7 +75,7 @@ fn list_in(s: &[u8], bare: bool, none: Record) -> RecordRead {
     let mut n = 0;
     while n < 20 {
         let first = before(b',', rest);
-        let OneValue::Is(v) = item_in(first, bare) else {
+        let Some(v) = item_in(first, bare) else {
             return malformed(none);
         };
         r = with_value(r, n, v);
@@ -100,14 +100,14 @@ fn malformed(none: Record) -> RecordRead {
 }
 
 // A value, or a kind alone.
-fn item_in(s: &[u8], bare: bool) -> OneValue {
+fn item_in(s: &[u8], bare: bool) -> Option<Value> {
     if !bare {
         return value_in(s);
     }
-    let KindFound::Is(kind) = kind_named(s) else {
-        return OneValue::Malformed;
+    let Some(kind) = kind_named(s) else {
+        return None;
     };
-    OneValue::Is(value_of(kind, 0))
+    Some(value_of(kind, 0))
 }
 
 // One more value behind n others.
@@ -137,7 +137,7 @@ fn shape_like(r: Record) -> Shape {
 }
 
 fn kind_at(r: Record, at: usize) -> Kind {
-    let Held::Is(v) = record::get(r, at) else {
+    let Ok(v) = record::get(r, at) else {
         return Kind::U8;
     };
     kind_of(v)
@@ -152,7 +152,7 @@ pub(crate) fn put_record(output: &mut Buffer, used: usize, r: Record) -> usize
     let mut used = used;
     let mut at = 0;
     while at < count {
-        let Held::Is(v) = record::get(r, at) else {
+        let Ok(v) = record::get(r, at) else {
             return used;
         };
         let parted = put_comma(output, used, at);

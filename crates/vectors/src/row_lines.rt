@@ -3,14 +3,13 @@ ghost use Rattle.std.specs.Prelude.{◌≤◌, length};
 
 use crate::answers::{Answer, put_answer, unless_changed};
 use crate::counts::count_in;
-use crate::operands::{OneValue, with_digits};
+use crate::operands::with_digits;
 use crate::output::Buffer;
 use crate::rows::{RowF32, RowU8, RowU16, fill, is_filled};
 use crate::samples::{put_samples, samples_in};
 use choose::Range;
-use row::Rowed;
 use text::{after, before, kind_named};
-use value::{Kind, KindFound, Value};
+use value::{Kind, Refusal, Value};
 
 // An answer, and where it is a row: the first `count` samples of the row of a kind.
 #[derive(Clone, Copy)]
@@ -62,7 +61,7 @@ fn clamped(row: &mut [f32], count: usize, range: Range) -> Answer
 }
 
 fn bound_in(s: &[u8]) -> Bound {
-    let OneValue::Is(v) = with_digits(Kind::F32, s) else {
+    let Some(v) = with_digits(Kind::F32, s) else {
         return Bound {
             x: 0.0,
             well_formed: false,
@@ -89,11 +88,11 @@ pub(crate) fn row_line(
 ) -> RowAnswer
     ensures { result.count ≤ 8192 }
 {
-    let KindFound::Is(from) = kind_named(before(b' ', rest)) else {
+    let Some(from) = kind_named(before(b' ', rest)) else {
         return malformed();
     };
     let next = after(b' ', rest);
-    let KindFound::Is(to) = kind_named(before(b' ', next)) else {
+    let Some(to) = kind_named(before(b' ', next)) else {
         return malformed();
     };
     samples_line(from, to, after(b' ', next), u8s, u16s, f32s)
@@ -157,10 +156,10 @@ fn converted(
     }
 }
 
-fn rowed(r: Rowed) -> Answer {
+fn rowed(r: Result<(), Refusal>) -> Answer {
     match r {
-        Rowed::Done => Answer::Row,
-        Rowed::Refused(f) => Answer::Refused(f),
+        Ok(()) => Answer::Row,
+        Err(f) => Answer::Refused(f),
     }
 }
 

@@ -3,7 +3,7 @@
 ghost use Rattle.std.specs.Prelude.{◌≤◌};
 
 use crate::counts::{Count, counted, uncounted};
-use crate::operands::{OneValue, with_digits};
+use crate::operands::with_digits;
 use crate::output::{Buffer, put_byte, put_comma, put_hex};
 use crate::rows::{RowF32, RowU8, RowU16, sample_at, store};
 use text::{after, before, digits_of, word_number};
@@ -33,7 +33,7 @@ fn list_in(kind: Kind, s: &[u8], u8s: &mut RowU8, u16s: &mut RowU16, f32s: &mut 
     let mut n = 0;
     while n < 8192 {
         let first = before(b',', rest);
-        let OneValue::Is(v) = with_digits(kind, first) else {
+        let Some(v) = with_digits(kind, first) else {
             return uncounted();
         };
         store(v, n, u8s, u16s, f32s);

@@ -16,11 +16,11 @@ first_stays Greater u g = absurd (g refl)
 first_stays Unordered u g = absurd (u refl)
 
 pub returns-in-Unordered : goal.returns-in-Unordered
-returns-in-Unordered c = then_order (chosen_by 0 _ _) c.in-Is.is (chosen_unordered 0 _ _ _ c.in-Unordered.is)
+returns-in-Unordered c = then_order (chosen_by 0 _ _) c.in_ok-c.was (chosen_unordered 0 _ _ _ c.in-Unordered.is)
 
 pub returns-in-Greater : goal.returns-in-Greater
-returns-in-Greater c = then_order (chosen_by 0 _ _) c.in-Is.is (chosen_greater 0 _ _ _ c.in-Greater.is)
+returns-in-Greater c = then_order (chosen_by 0 _ _) c.in_ok-c.was (chosen_greater 0 _ _ _ c.in-Greater.is)
 
 pub returns-in_default : goal.returns-in_default
-returns-in_default c = then_order (chosen_by 0 _ _) c.in-Is.is
+returns-in_default c = then_order (chosen_by 0 _ _) c.in_ok-c.was
     (chosen_other 0 _ _ _ (first_stays _ c.in_default.not-Unordered c.in_default.not-Greater))

@@ -18,15 +18,15 @@ first_stays Unordered u g = absurd (u refl)
 
 pub returns-in-Unordered : goal.returns-in-Unordered
 returns-in-Unordered c = c.refused.ensures
-    ∙ ap recorded_of (then_decision (chosen_from _ _) c.in-Is.is
+    ∙ ap recorded_of (then_decision (chosen_from _ _) c.in-Ok.is
     (chosen_unordered _ _ _ _ c.in-Unordered.is))
 
 pub returns-in-Greater : goal.returns-in-Greater
 returns-in-Greater c =
-    ap recorded_of (then_decision (chosen_from _ _) c.in-Is.is (chosen_greater _ _ _ _ c.in-Greater.is))
+    ap recorded_of (then_decision (chosen_from _ _) c.in-Ok.is (chosen_greater _ _ _ _ c.in-Greater.is))
 
 pub returns-in_default : goal.returns-in_default
 returns-in_default c =
-    ap recorded_of (then_decision (chosen_from _ _) c.in-Is.is
+    ap recorded_of (then_decision (chosen_from _ _) c.in-Ok.is
     (chosen_other _ _ _ _
     (first_stays _ c.in_default.not-Unordered c.in_default.not-Greater)))

@@ -4,10 +4,10 @@ use Rattle.silamogo.specs.Samples.{is_nothing}
 use Rattle.silamogo.specs.Samples as spec
 use Rattle.silamogo.proofs.samples.unnamed.Goals as goal
 
-pub returns-in-Is : goal.returns-in-Is
+pub returns-in-Some : goal.returns-in-Some
 unfolding spec.unnamed
-returns-in-Is c = sym (ap is_nothing c.in-Is.is) ∙ ap is_nothing c.kind_of_number.ensures
+returns-in-Some c = sym (ap is_nothing c.in-Some.is) ∙ ap is_nothing c.kind_of_number.ensures
 
-pub returns-in-Nothing : goal.returns-in-Nothing
+pub returns-in-None : goal.returns-in-None
 unfolding spec.unnamed
-returns-in-Nothing c = sym (ap is_nothing c.in-Nothing.is) ∙ ap is_nothing c.kind_of_number.ensures
+returns-in-None c = sym (ap is_nothing c.in-None.is) ∙ ap is_nothing c.kind_of_number.ensures

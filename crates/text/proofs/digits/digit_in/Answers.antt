@@ -7,7 +7,7 @@ pub returns-in_default : goal.returns-in_default
 returns-in_default c = no_digit _ _ (sym c.hex_digit.ensures ∙ c.in_default.is)
 
 pub returns-then-d-base : goal.returns-then-d-base
-returns-then-d-base c = in_base _ _ (sym c.hex_digit.ensures ∙ c.in-Is.is) c.if-d-base.true
+returns-then-d-base c = in_base _ _ (sym c.hex_digit.ensures ∙ c.in-Some.is) c.if-d-base.true
 
 pub returns-else-d-base : goal.returns-else-d-base
-returns-else-d-base c = above_base _ _ (sym c.hex_digit.ensures ∙ c.in-Is.is) c.if-d-base.false
+returns-else-d-base c = above_base _ _ (sym c.hex_digit.ensures ∙ c.in-Some.is) c.if-d-base.false

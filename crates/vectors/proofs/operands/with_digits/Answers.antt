@@ -1,6 +1,6 @@
 -- The number of digits and then the digits decide, as in `with_digits`.
+use Rattle.std.specs.Prelude.{Some}
 use mathlib.Core.Path.{◌≡◌, sym, ◌∙◌, ap}
-use Rattle.vectors.specs.declared.operands.OneValue.TheVariants as one
 use Rattle.vectors.specs.Operands.{with_digits, with_bits}
 use Rattle.vectors.proofs.Values.{digits_amiss, digits_all}
 use Rattle.vectors.proofs.operands.with_digits.Goals as goal
@@ -18,4 +18,4 @@ pub returns-in_default : goal.returns-in_default
 returns-in_default c = sym (read ((goal.at.returns-in_default c).After-hex_number) ∙ ap (with_bits _) c.in_default.is)
 
 pub returns : goal.returns
-returns c = sym (read ((goal.at.returns c).After-hex_number) ∙ ap (with_bits _) c.in-Is.is ∙ ap one.Is (sym c.value_of.ensures))
+returns c = sym (read ((goal.at.returns c).After-hex_number) ∙ ap (with_bits _) c.in-Some.is ∙ ap Some (sym c.value_of.ensures))
