@@ -1,19 +1,16 @@
 -- No two outcomes: an answer of an enum is told by its outcome, and all else stands in the contract as it is.
-use mathlib.Core.Path.{◌≡◌, refl, sym, ◌∙◌, subst}
+use Rattle.std.specs.Prelude.{Result, Ok, Err}
+use Rattle.value.specs.declared.Refusal.{Refusal}
+use mathlib.Core.Path.{◌≡◌, refl, sym, ◌∙◌, ap, subst}
 use mathlib.Core.List.{List, [], ◌∷◌}
 use Prim.Native.Nat.{ℕ, suc, ◌<◌}
 use native.Mathlib.Omega.{arith}
 use lib.ListN.{length, get_or}
 use Rattle.float.proofs.Magnitude.{mag_injective}
 use Rattle.half.specs.Small.{IsOver, Small}
+use Rattle.value.proofs.Outcomes.{refusal_injective, outcome_injective}
 use Rattle.value.specs.Outcome.{Outcome, outcome_of}
-use Rattle.cmp.proofs.Determined.{compared_injective, tested_injective}
-use Rattle.choose.proofs.Determined.{chosen_injective, ranged_injective, sampled_injective}
-use Rattle.convert.proofs.Determined.{converted_injective}
 use Rattle.row.specs.Row.{rowed_outcome}
-use Rattle.row.proofs.Determined.{rowed_injective}
-use Rattle.record.proofs.Determined.{held_injective}
-use Rattle.key.proofs.Determined.{written_injective}
 use Rattle.demands.specs.Determined.{OnlyOne, Determined}
 
 module _ {R A : Type 0} (outcomeOf : R → Outcome A) (injective : (r s : R) → outcomeOf r ≡ outcomeOf s → r ≡ s) (spec : Outcome A) where
@@ -46,18 +43,19 @@ one_table t u h k =
     entries_same t u (h.0 ∙ sym k.0)
     (λ m l. let inside : m < 1024 = subst (λ (n : ℕ). m < n) h.0 l in one_entry m (get_or t m 0) (get_or u m 0) (h.1 m inside) (k.1 m inside))
 
+-- a row's answer is told by its outcome too
+rowed_injective : (r s : Result (Unit {0}) Refusal) → rowed_outcome r ≡ rowed_outcome s → r ≡ s
+rowed_injective (Ok u) (Ok v) h = refl
+rowed_injective (Ok u) (Err g) h = cc
+rowed_injective (Err f) (Ok v) h = cc
+rowed_injective (Err f) (Err g) h = ap Err (refusal_injective f g h)
+
 pub determined : Determined
 determined = record {
   plain = λ spec r s h k. h ∙ sym k;
-  compared = by_outcome outcome_of compared_injective;
-  tested = by_outcome outcome_of tested_injective;
-  chosen = by_outcome outcome_of chosen_injective;
-  ranged = by_outcome outcome_of ranged_injective;
-  sampled = by_outcome outcome_of sampled_injective;
-  converted = by_outcome outcome_of converted_injective;
-  held = by_outcome outcome_of held_injective;
+  answered = by_outcome outcome_of outcome_injective;
   entry = one_entry;
   table = one_table;
   rowed = λ spec exit. with_buffer rowed_outcome rowed_injective spec exit;
-  written = λ spec exit. with_buffer outcome_of written_injective spec exit;
+  written = λ spec exit. with_buffer outcome_of outcome_injective spec exit;
 }

@@ -16,17 +16,12 @@ OnlyOne {R} contract = (r s : R) → contract r → contract s → r ≡ s
 pub record Determined : Type 1 where
   -- `r ≡ spec`: a number, a class, an order, a record beside its outcome, a lent row itself
   pub plain : {R : Type 0} (spec : R) → OnlyOne (λ (r : R). r ≡ spec)
-  -- `outcome_of r ≡ spec`, for each enum
-  pub compared : (spec : Outcome Order) → OnlyOne (λ (r : Result Order Refusal). outcome_of r ≡ spec)
-  pub tested : (spec : Outcome Bool) → OnlyOne (λ (r : Result Bool Refusal). outcome_of r ≡ spec)
-  pub chosen : (spec : Outcome Value) → OnlyOne (λ (r : Result Value Refusal). outcome_of r ≡ spec)
-  pub ranged : (spec : Outcome Range) → OnlyOne (λ (r : Result Range Refusal). outcome_of r ≡ spec)
-  pub sampled : (spec : Outcome Float) → OnlyOne (λ (r : Result Float Refusal). outcome_of r ≡ spec)
-  pub converted : (spec : Outcome Value) → OnlyOne (λ (r : Result Value Refusal). outcome_of r ≡ spec)
-  pub held : (spec : Outcome Value) → OnlyOne (λ (r : Result Value Refusal). outcome_of r ≡ spec)
+  -- `outcome_of r ≡ spec`: a result, or a refusal
+  pub answered : {A : Type 0} (spec : Outcome A) → OnlyOne (λ (r : Result A Refusal). outcome_of r ≡ spec)
   -- an entry of the table of f16 magnitudes, and the whole table
   pub entry : (m : ℕ) → OnlyOne (IsOver m)
   pub table : OnlyOne Small
   -- an answer, and beside it `now b.exit ≡ exit` of the lent buffer
-  pub rowed : {B : Type 0} (spec : Outcome Success) (exit : List B) → OnlyOne (λ (r : Result (Unit {0}) Refusal × List B). (rowed_outcome r.0 ≡ spec) × (r.1 ≡ exit))
+  pub rowed : {B : Type 0} (spec : Outcome Success) (exit : List B)
+      → OnlyOne (λ (r : Result (Unit {0}) Refusal × List B). (rowed_outcome r.0 ≡ spec) × (r.1 ≡ exit))
   pub written : (spec : Outcome ℕ) (exit : List ℕ) → OnlyOne (λ (r : Result ℕ Refusal × List ℕ). (outcome_of r.0 ≡ spec) × (r.1 ≡ exit))

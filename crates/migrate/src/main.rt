@@ -17,6 +17,7 @@ use moves::migrate;
 use reports::report;
 use std::io;
 use text::{kind_named, word_number};
+use value::Kind;
 
 // What was asked for beside the words, and the place of the first word. `into` is for a caller that makes, names and removes OUT itself.
 #[derive(Clone, Copy)]

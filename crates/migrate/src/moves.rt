@@ -12,7 +12,7 @@ use crate::names::made_beside;
 use migration::{Fault, State, run};
 use std::fs::{File, OpenOptions};
 use std::{fs, io};
-use value::Kind;
+use value::{Kind, Refusal};
 
 // The system's number for what a file system can't do.
 const EINVAL: i32 = 22;

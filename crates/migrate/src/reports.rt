@@ -7,7 +7,7 @@ use look::Seen;
 use migration::{Fault, Look, look_through};
 use std::fs::File;
 use std::io;
-use value::Kind;
+use value::{Kind, Refusal};
 
 // The path of IN is an argument; `asked` is whether the lines on TO are wanted.
 pub(crate) fn report(

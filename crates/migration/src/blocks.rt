@@ -16,7 +16,7 @@ use input::{Block, read_block};
 use sample::sample_at;
 use std::io::{Read, Seek, Write};
 use std::rt::Clock;
-use value::{Kind, bytes_of};
+use value::{Kind, Value, bytes_of};
 
 // Room for a block of samples, in either kind. Why so much: docs/DECISIONS.md, Blocks by pair.
 const BUFFER_BYTES: usize = 262144;
