@@ -1,7 +1,7 @@
 -- The turns of a run: a block that was read is the front of the buffer, and each turn leads on.
 use Prim.Native.Nat.{ℕ, ◌≤◌, ◌<◌}
-use Rattle.std.specs.Prelude.{pos}
-use mathlib.Core.Bool.{Bool, false}
+use Rattle.std.specs.Prelude.{None}
+use mathlib.Core.Bool.{Bool}
 use mathlib.Core.Logic.{inl, inr}
 use mathlib.Core.List.{List, [], ◌∷◌, ◌++◌}
 use mathlib.Core.Path.{◌≡◌, ap, sym}
@@ -27,7 +27,7 @@ module _ (buffer : List ℕ) (n : ℕ) (inside : n ≤ length buffer) where
 
   -- whether it is full decides if the run goes on
   pub block_told : (r next : Telling) (full : Bool) → n ≤ block_bytes r.sheet.samples → full ≡ eqb n (block_bytes r.sheet.samples)
-      → next.sheet ≡ sheet_after r.sheet (take n buffer) → next.failed ≡ false → next.turns ≡ turns_left r.turns full next.sheet.samples
+      → next.sheet ≡ sheet_after r.sheet (take n buffer) → next.fault ≡ None → next.turns ≡ turns_left r.turns full next.sheet.samples
       → TellsBlock r (take n buffer) next
   block_told r next full small size told well turns = (
     rw many small,
@@ -43,7 +43,7 @@ abbrev pub Reaches : Telling → Type 0
 Reaches r = (bs : List (List ℕ)) × Ran bs r
 
 -- none led to the beginning
-pub at_beginning : (s : Sheet) → s ≡ blank → Reaches (record { sheet = s; failed = false; errno = pos 0; turns = all_turns })
+pub at_beginning : (s : Sheet) → s ≡ blank → Reaches (record { sheet = s; fault = None; turns = all_turns })
 at_beginning s q = rw q ([], begins)
 
 -- a turn leads on

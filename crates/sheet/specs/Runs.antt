@@ -1,5 +1,5 @@
 -- The turns of a run, by what stands in the buffer after the read, and whole runs. RULES.md: Strip sheet.
-use Rattle.std.specs.Prelude.{ℕ, pos, ◌-◌, ◌*◌, ◌≤◌, min, Bool, true, false, cond, ◌&&◌, ◌≡◌, List, eqb, ltb, length}
+use Rattle.std.specs.Prelude.{ℕ, ◌-◌, ◌*◌, ◌≤◌, min, Bool, cond, None, IsSome, ◌&&◌, ◌≡◌, List, eqb, ltb, length}
 use Rattle.input.specs.Chain.{Chain, all_turns}
 use Rattle.sample.specs.Samples.{joined}
 use Rattle.strip.specs.Sheet.{most, sheet_after}
@@ -23,16 +23,16 @@ abbrev pub TellsBlock : Telling → List ℕ → Telling → Type 0
 TellsBlock r block next =
     (length block ≤ block_bytes r.sheet.samples)
     × (next.sheet ≡ sheet_after r.sheet block)
-    × (next.failed ≡ false)
+    × (next.fault ≡ None)
     × (next.turns ≡ turns_left r.turns (eqb (length block) (block_bytes r.sheet.samples)) next.sheet.samples)
 
 -- a turn in which a read failed: the last one
 abbrev pub ReadFails : Telling → Telling → Type 0
-ReadFails r next = (next.sheet ≡ r.sheet) × (next.failed ≡ true) × (next.turns ≡ 0)
+ReadFails r next = (next.sheet ≡ r.sheet) × IsSome next.fault × (next.turns ≡ 0)
 
 -- nothing told yet
 abbrev pub beginning : Telling
-beginning = record { sheet = blank; failed = false; errno = pos 0; turns = all_turns }
+beginning = record { sheet = blank; fault = None; turns = all_turns }
 
 -- some blocks lead from the beginning to here
 abbrev pub Ran : List (List ℕ) → Telling → Type 0

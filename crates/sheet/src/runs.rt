@@ -12,13 +12,12 @@ const BUFFER_BYTES: usize = 131072;
 
 type Buffer = [u8; BUFFER_BYTES];
 
-// Where a run stands; `failed` is whether a read failed, `errno` then the system's number, and `turns` how many blocks may still be read, 0 once
-// the input has ended.
+// Where a run stands; `fault` is the system's number of a read that failed, 0 where it gave none, and `turns` how many blocks may still be read, 0
+// once the input has ended.
 #[derive(Clone, Copy)]
 pub(crate) struct Telling {
     pub sheet: Sheet,
-    pub failed: bool,
-    pub errno: i32,
+    pub fault: Option<i32>,
     pub turns: u64,
 }
 
@@ -59,8 +58,7 @@ fn run_in<R: Read>(input: &mut R, src: &mut Buffer) -> Telling
 {
     let mut r = Telling {
         sheet: blank_sheet(),
-        failed: false,
-        errno: 0,
+        fault: None,
         turns: u64::MAX,
     };
     while r.turns > 0 {
@@ -75,11 +73,7 @@ fn block_bytes(samples: u64) -> usize
 {
     if samples < MOST {
         let left = (MOST - samples) as usize * 4;
-        return if left < BUFFER_BYTES {
-            left
-        } else {
-            BUFFER_BYTES
-        };
+        return left.min(BUFFER_BYTES);
     }
     0
 }
@@ -103,16 +97,14 @@ fn step<R: Read>(input: &mut R, src: &mut Buffer, r: Telling) -> Telling
     ensures step { Stepped r src.new result }
 {
     let before = r.sheet;
-    let got = read_block(input, block_bytes(before.samples), src);
-    if got.failed {
-        return Telling {
+    match read_block(input, block_bytes(before.samples), src) {
+        Ok(got) => tell(got, src, r),
+        Err(e) => Telling {
             sheet: before,
-            failed: true,
-            errno: got.errno,
+            fault: Some(e.raw_os_error().unwrap_or(0)),
             turns: 0,
-        };
+        },
     }
-    tell(got, src, r)
 }
 
 // What was read, and no more, is the next block.
@@ -128,8 +120,7 @@ fn tell(got: Block, src: &[u8], r: Telling) -> Telling
     let turns = turns_left(r.turns, got.full, sheet.samples);
     Telling {
         sheet,
-        failed: false,
-        errno: 0,
+        fault: None,
         turns,
     }
 }
