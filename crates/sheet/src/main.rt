@@ -19,10 +19,8 @@ fn main(rt: HostRuntime) {
         put(rt, b"error=standard input can't be read\n");
         return;
     }
-    let sheet = r.sheet;
-    let mut out = [0u8; 256];
-    let n = put_sheet(sheet, &mut out);
-    put(rt, &out[..n]);
+    let page = put_sheet(r.sheet);
+    put(rt, page.text());
 }
 
 // All of it in one call, so that a full disk leaves no half sheet.
