@@ -1,5 +1,4 @@
 pub mod Sizes
-pub mod Steps
 pub mod Places
 pub mod Runs
 pub mod RunDecides

@@ -1,6 +1,6 @@
 -- The sample that a refusal is about. Its place is one of the row's own: behind the samples before a block, so that the block has it there, and
 -- before all samples that come later, so that it stays the sample of the whole.
-use Rattle.std.specs.Prelude.{Option, Result, Err, None, Some}
+use Rattle.std.specs.Prelude.{Option, None, Some}
 use Prim.Native.Nat.{ℕ, suc, ◌+◌, ◌-◌, ◌≤◌, ◌<◌}
 use native.Mathlib.Omega.{arith}
 use mathlib.Core.Bool.{Bool, true, false, not, cond}
@@ -14,41 +14,17 @@ use lib.Seq.{get_or-append-add}
 use Rattle.float.proofs.Naturals.{lt_or_ge}
 use Rattle.float.proofs.Tests.{clash}
 use Rattle.value.specs.declared.Kind.{Kind}
-use Rattle.value.specs.declared.Refusal.{Refusal}
 use Rattle.value.specs.declared.Value.{Value}
 use Rattle.value.specs.Meaning.{value_of}
 use Rattle.value.specs.Outcome.{Outcome, gives, refuses, refuse_if, and_then, Success, done}
-use Rattle.row.specs.Row.{rowed_outcome, row_answer, sample_then}
+use Rattle.row.specs.Row.{row_answer, sample_then}
 use Rattle.sample.specs.Samples.{count_of, left_of, samples_of, sample_at}
 use Rattle.sample.specs.Refusals.{bits_to, answer_of}
 use Rattle.sample.proofs.Samplings.{length_samples}
 use Rattle.sample.proofs.Joining.{left_joined, samples_of_joined}
 use Rattle.block.proofs.Joining.{answer_joined}
-use Rattle.migration.specs.declared.blocks.State.{State}
-use Rattle.migration.specs.Steps.{sample_by, found_or, sample_after}
+use Rattle.migration.specs.Steps.{sample_by, found_or}
 use Rattle.migration.specs.Runs.{refused_sample}
-
--- ---- what the code found
-
-pub found_new : {kept : Option Value} {v w : Value} → kept ≡ None → v ≡ w → Some v ≡ found_or kept w
-found_new {kept} {v} {w} p q = ap Some q ∙ sym (ap (λ (f : Option Value). found_or f w) p)
-
-module _ (from : Kind) (s : State) (block : List ℕ) {answer : Result (Unit {0}) Refusal} {f : Refusal} (refused : answer ≡ Err f) where
-  abbrev here : ℕ → Option Value
-  here i = found_or s.sample (sample_at from block i)
-
-  by_number : {t : Bool} → eqb f.number 9 ≡ t → sample_after from s block (rowed_outcome answer) ≡ cond t None (here (f.place - s.progress.samples))
-  by_number q =
-      ap (λ (a : Result (Unit {0}) Refusal). sample_after from s block (rowed_outcome a)) refused
-      ∙ ap (λ (t : Bool). cond t None (here (f.place - s.progress.samples))) q
-
-  -- bytes left over
-  pub none_left : f.number ≡ 9 → None ≡ sample_after from s block (rowed_outcome answer)
-  none_left q = sym (by_number (eq-eqb f.number 9 q))
-
-  pub at_index : (f.number ≡ 9 → ⊥) → {i : ℕ} → i ≡ f.place - s.progress.samples → {found : Option Value} → found ≡ here i
-      → found ≡ sample_after from s block (rowed_outcome answer)
-  at_index h p q = q ∙ ap here p ∙ sym (by_number (ne_eqb f.number 9 h))
 
 -- ---- rows joined
 

@@ -30,7 +30,7 @@ use Rattle.look.specs.Report.{nothing_seen, look_of}
 use Rattle.look.specs.ReportTheorem.{looked_at, Tells}
 use Rattle.look.proofs.Looked.{looks_decide}
 use Rattle.migration.specs.declared.blocks.Fault.{Fault}
-use Rattle.migration.specs.declared.blocks.Fault.TheVariants.{Nothing}
+use Rattle.std.specs.Prelude.{Option, None}
 use Rattle.migration.specs.declared.blocks.State.{State}
 use Rattle.migration.specs.Sizes.{buffer_bytes, block_bytes}
 use Rattle.migration.specs.Turns.{turns_left}
@@ -44,12 +44,12 @@ use Rattle.input.proofs.Chains.{built_up, shape, folded, leads}
 -- ---- a block
 
 -- a run goes on only behind a full block
-full_before : (turns : ℕ) (full : Bool) (fault : Fault) → 0 < turns_left turns full fault → full ≡ true
+full_before : (turns : ℕ) (full : Bool) (fault : Option Fault) → 0 < turns_left turns full fault → full ≡ true
 full_before turns true fault h = refl
 full_before turns false fault h = absurd (omega (arith, h))
 
 -- which has whole samples
-ends_whole : (from to : Kind) (block : List ℕ) (left turns : ℕ) (fault : Fault)
+ends_whole : (from to : Kind) (block : List ℕ) (left turns : ℕ) (fault : Option Fault)
     → left ≡ turns_left turns (eqb (length block) (block_bytes from to)) fault → 0 < left → left_of from block ≡ 0
 ends_whole from to block left turns fault q h =
     let full = full_before turns (eqb (length block) (block_bytes from to)) fault (subst (λ (t : ℕ). 0 < t) q h) in
@@ -200,7 +200,7 @@ pub look_decides : LookDecides
 look_decides from to bs r looked short =
     let shaped = built_up {R = whole.WholeBlocks from} whole.none (λ b p. whole.last b) (λ b bs p. whole.more b bs)
     (shape {P = λ b. Unit {0}} (λ s next b t. tt)
-    (λ s next b t h. ends_whole from from b next.turns s.turns Nothing t.1.2 h) (λ s next f. f.2) looked) in
+    (λ s next b t h. ends_whole from from b next.turns s.turns None t.1.2 h) (λ s next f. f.2) looked) in
     let led : look_of from to nothing_seen (joined bs) ≡ r.seen =
     sym (looks_decide from to bs shaped short).0
     ∙ sym (looked_folded from to bs nothing_seen)

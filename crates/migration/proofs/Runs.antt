@@ -9,7 +9,7 @@ use Rattle.block.specs.declared.Progress.{Progress}
 use Rattle.look.specs.declared.Seen.{Seen}
 use Rattle.look.specs.Report.{nothing_seen}
 use Rattle.input.specs.Chain.{all_turns, begins, takes, fails}
-use Rattle.migration.specs.declared.blocks.Fault.TheVariants.{Nothing}
+use Rattle.std.specs.Prelude.{None}
 use Rattle.migration.specs.declared.blocks.State.{State}
 use Rattle.migration.specs.declared.looks.Look.{Look}
 use Rattle.migration.specs.Inner.{Stepped, Looked}
@@ -22,7 +22,7 @@ module _ (from to : Kind) where
 
   -- none led to the beginning
   pub at_beginning : (p : Progress) → p ≡ beginning.state.progress
-      → Reaches (record { progress = p; sample = None; fault = Nothing; turns = all_turns })
+      → Reaches (record { progress = p; sample = None; fault = None; turns = all_turns })
   at_beginning p q = rw q ([], [], begins)
 
   -- a turn leads on
@@ -39,7 +39,7 @@ module _ (from to : Kind) where
   abbrev pub LooksTo : Look → Type 0
   LooksTo s = (bs : List (List ℕ)) × LookedThrough from to bs s
 
-  pub unlooked : (s : Seen) → s ≡ nothing_seen → LooksTo (record { seen = s; fault = Nothing; turns = all_turns })
+  pub unlooked : (s : Seen) → s ≡ nothing_seen → LooksTo (record { seen = s; fault = None; turns = all_turns })
   unlooked s q = rw q ([], begins)
 
   pub next_look : (s next : Look) (buffer : List ℕ) → LooksTo s → 0 < s.turns → Looked from to s buffer next → LooksTo next

@@ -12,7 +12,6 @@ use Rattle.block.specs.Theorem.{written_by}
 use Rattle.look.specs.Report.{nothing_seen}
 use Rattle.look.specs.ReportTheorem.{Tells}
 use Rattle.migration.specs.declared.blocks.State.{State}
-use Rattle.migration.specs.declared.blocks.Fault.TheVariants.{Nothing}
 use Rattle.migration.specs.declared.looks.Look.{Look}
 use Rattle.input.specs.Chain.{Chain, all_turns}
 use Rattle.migration.specs.Sizes.{block_bytes}
@@ -28,7 +27,7 @@ pub record Moving : Type 0 where
 -- no samples yet, nothing refused and nothing written
 abbrev pub beginning : Moving
 beginning = record {
-  state = record { progress = record { samples = 0; answer = Ok tt }; sample = None; fault = Nothing; turns = all_turns };
+  state = record { progress = record { samples = 0; answer = Ok tt }; sample = None; fault = None; turns = all_turns };
   written = [];
 }
 
@@ -71,7 +70,7 @@ RunDecides =
 
 -- nothing seen yet
 abbrev pub unseen : Look
-unseen = record { seen = nothing_seen; fault = Nothing; turns = all_turns }
+unseen = record { seen = nothing_seen; fault = None; turns = all_turns }
 
 -- a turn of a report
 abbrev pub LooksAtBlock : Kind → Kind → Look → List ℕ → Look → Type 0

@@ -9,7 +9,6 @@ use Rattle.block.specs.Migrate.{StepTaken}
 use Rattle.look.specs.Report.{look_of}
 use Rattle.migration.specs.declared.blocks.State.{State}
 use Rattle.migration.specs.declared.looks.Look.{Look}
-use Rattle.migration.specs.declared.blocks.Fault.TheVariants.{Nothing}
 use Rattle.migration.specs.Sizes.{buffer_bytes, block_bytes}
 use Rattle.migration.specs.Turns.{is_reading, WritingOnly, turns_left}
 
@@ -44,8 +43,8 @@ Failed s next = (next.progress ≡ s.progress) × (next.sample ≡ s.sample) × 
 abbrev pub LookedOn : Kind → Kind → Look → List ℕ → Look → Type 0
 LookedOn from to s block next =
     (next.seen ≡ look_of from to s.seen block)
-    × (next.fault ≡ Nothing)
-    × (next.turns ≡ turns_left s.turns (eqb (length block) (block_bytes from from)) Nothing)
+    × (next.fault ≡ None)
+    × (next.turns ≡ turns_left s.turns (eqb (length block) (block_bytes from from)) None)
 
 -- a turn of a report in which a read failed
 abbrev pub LookFailed : Look → Look → Type 0

@@ -12,8 +12,9 @@ ghost use Rattle.migration.specs.Turns.{is_nothing, turns_left, WritingOnly};
 
 use crate::watches::{Watch, begun, tell};
 use block::{Progress, ROW_PLACES, convert_block};
-use input::{Block, read_block};
+use input::read_block;
 use sample::sample_at;
+use std::io;
 use std::io::{Read, Seek, Write};
 use std::rt::Clock;
 use value::{Kind, Value, bytes_of};
@@ -23,10 +24,9 @@ const BUFFER_BYTES: usize = 262144;
 
 pub(crate) type Buffer = [u8; BUFFER_BYTES];
 
-// What stopped a run before its end: nothing, or a read or a write, with the system's number.
-#[derive(Clone, Copy)]
+// What stopped a run before its end: a read or a write, with the system's number, 0 where it gave none.
+#[derive(Clone, Copy, Debug, PartialEq, Eq)]
 pub enum Fault {
-    Nothing,
     Reading(i32),
     Writing(i32),
 }
@@ -36,7 +36,7 @@ pub enum Fault {
 pub struct State {
     pub progress: Progress,
     pub sample: Option<Value>,
-    pub fault: Fault,
+    pub fault: Option<Fault>,
     pub turns: u64,
 }
 
@@ -106,7 +106,7 @@ fn run_in<R: Read + Seek, W: Write>(
     let mut r = State {
         progress: start(),
         sample: None,
-        fault: Fault::Nothing,
+        fault: None,
         turns: u64::MAX,
     };
     while r.turns > 0 {
@@ -131,119 +131,63 @@ fn step<R: Read, W: Write>(
     ensures fewer { result.turns < r.turns }
     ensures step { Stepped from to r src.new dst.old dst.new result }
 {
-    let before = r.progress;
-    let sample = r.sample;
-    let got = read_block(input, block_bytes(from, to), src);
-    if got.failed {
-        return State {
-            progress: before,
-            sample,
-            fault: Fault::Reading(got.errno),
+    match read_block(input, block_bytes(from, to), src) {
+        Ok(got) => move_on(&src[..got.bytes], got.full, output, from, to, dst, r),
+        Err(e) => State {
+            fault: Some(Fault::Reading(number_of(e))),
             turns: 0,
-        };
-    }
-    move_on(got, output, from, to, src, dst, r)
-}
-
-// What was read, and no more, is the next block.
-fn move_on<W: Write>(
-    got: Block,
-    output: &mut W,
-    from: Kind,
-    to: Kind,
-    src: &[u8],
-    dst: &mut [u8],
-    r: State,
-) -> State
-    requires some { 0 < r.turns }
-    requires read { (got.bytes ≤ length src.now) × (got.bytes ≤ block_bytes from to) }
-    requires full { got.full ≡ eqb got.bytes (block_bytes from to) }
-    requires room { length dst.old ≡ buffer_bytes }
-    ensures fewer { result.turns < r.turns }
-    ensures step { MovedOn from to r (take got.bytes src.now) dst.old dst.new result }
-{
-    let progress = convert(r.progress, from, to, src, got.bytes, dst);
-    let fault = write_block(output, progress, from, to, dst, got.bytes);
-    State {
-        progress,
-        sample: sample_after(r, from, src, got.bytes, progress),
-        fault,
-        turns: turns_left(r.turns, got.full, fault),
-    }
-}
-
-// The sample that was refused, after a block: with Done there is none, and none with 9, bytes left over.
-fn sample_after(r: State, from: Kind, src: &[u8], bytes: usize, after: Progress) -> Option<Value>
-    requires { bytes ≤ length src.now }
-    ensures { result ≡ sample_after from r (take bytes src.now) (rowed_outcome after.answer) }
-{
-    let before = r.progress;
-    let kept = r.sample;
-    let answer = after.answer;
-    match answer {
-        Ok(()) => None,
-        Err(f) => if f.number == 9 {
-            None
-        } else {
-            let i = index_behind(before.samples, f.place);
-            found_or(kept, from, &src[..bytes], i)
+            ..r
         },
     }
 }
 
-// The index of a place in bytes that come behind so many samples.
-fn index_behind(samples: usize, place: usize) -> usize
-    ensures { result ≡ place - samples }
+// What was read, and no more, is the next block.
+fn move_on<W: Write>(
+    block: &[u8],
+    full: bool,
+    output: &mut W,
+    from: Kind,
+    to: Kind,
+    dst: &mut [u8],
+    r: State,
+) -> State
+    requires some { 0 < r.turns }
+    requires read { length block.now ≤ block_bytes from to }
+    requires full { full ≡ eqb (length block.now) (block_bytes from to) }
+    requires room { length dst.old ≡ buffer_bytes }
+    ensures fewer { result.turns < r.turns }
+    ensures step { MovedOn from to r block.now dst.old dst.new result }
 {
-    if samples < place { place - samples } else { 0 }
-}
-
-// What was found before, or else the sample at an index.
-fn found_or(kept: Option<Value>, from: Kind, src: &[u8], i: usize) -> Option<Value>
-    ensures { result ≡ found_or kept (sample_at from src.now i) }
-{
-    match kept {
-        Some(_) => kept,
-        None => Some(sample_at(from, src, i)),
+    let progress = convert_block(r.progress, from, to, block, dst);
+    let fault = write_block(output, progress, from, to, dst, block.len());
+    State {
+        progress,
+        sample: sample_after(r, from, block, progress),
+        fault,
+        turns: turns_left(r.turns, full, fault),
     }
 }
 
-fn is_nothing(fault: Fault) -> bool
-    ensures { result ≡ is_nothing fault }
+// The sample that was refused, after a block: with Ok there is none, and none with 9, bytes left over.
+fn sample_after(r: State, from: Kind, block: &[u8], after: Progress) -> Option<Value>
+    ensures { result ≡ sample_after from r block.now (rowed_outcome after.answer) }
 {
-    match fault {
-        Fault::Nothing => true,
-        Fault::Reading(_) => false,
-        Fault::Writing(_) => false,
+    let Err(f) = after.answer else {
+        return None;
+    };
+    if f.number == 9 {
+        return None;
     }
+    let i = f.place.saturating_sub(r.progress.samples);
+    r.sample.or(Some(sample_at(from, block, i)))
 }
 
 // A block that isn't full is the last one, and so is one that couldn't be written.
-pub(crate) fn turns_left(turns: u64, full: bool, fault: Fault) -> u64
+pub(crate) fn turns_left(turns: u64, full: bool, fault: Option<Fault>) -> u64
     requires { 0 < turns }
     ensures { (result ≡ turns_left turns full fault) × (result < turns) }
 {
-    if full {
-        if is_nothing(fault) {
-            return turns - 1;
-        }
-    }
-    0
-}
-
-// Only the bytes that were read, not what an earlier block left behind them.
-fn convert(
-    before: Progress,
-    from: Kind,
-    to: Kind,
-    src: &[u8],
-    bytes: usize,
-    dst: &mut [u8],
-) -> Progress
-    requires { bytes ≤ length src.now }
-    ensures { StepTaken from to before (take bytes src.now) dst.old dst.new result }
-{
-    convert_block(before, from, to, &src[..bytes], dst)
+    if full & fault.is_none() { turns - 1 } else { 0 }
 }
 
 // How many bytes the samples of a block are in the other kind.
@@ -255,6 +199,11 @@ fn output_bytes(from: Kind, to: Kind, bytes: usize) -> usize
     samples * bytes_of(to)
 }
 
+// The system's number of an error, 0 where it gave none.
+pub(crate) fn number_of(e: io::Error) -> i32 {
+    e.raw_os_error().unwrap_or(0)
+}
+
 // Writes what a block came to; after a refusal nothing more is written.
 fn write_block<W: Write>(
     output: &mut W,
@@ -263,7 +212,7 @@ fn write_block<W: Write>(
     to: Kind,
     dst: &[u8],
     bytes: usize,
-) -> Fault
+) -> Option<Fault>
     requires fits { bytes / bytes_of from * bytes_of to ≤ buffer_bytes }
     requires room { length dst.now ≡ buffer_bytes }
     ensures { WritingOnly progress.answer result }
@@ -273,10 +222,10 @@ fn write_block<W: Write>(
         Ok(()) => {
             let n = output_bytes(from, to, bytes);
             match output.write_all(&dst[..n]) {
-                Ok(()) => Fault::Nothing,
-                Err(e) => Fault::Writing(e.raw_os_error().unwrap_or(0)),
+                Ok(()) => None,
+                Err(e) => Some(Fault::Writing(number_of(e))),
             }
         }
-        Err(_) => Fault::Nothing,
+        Err(_) => None,
     }
 }

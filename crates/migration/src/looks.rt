@@ -6,9 +6,9 @@ ghost use Rattle.migration.specs.Inner.{Looked};
 ghost use Rattle.migration.specs.Sizes.{block_bytes};
 ghost use Rattle.migration.specs.Runs.{Looks};
 
-use crate::blocks::{Buffer, Fault, block_bytes, large_buffer, turns_left};
+use crate::blocks::{Buffer, Fault, block_bytes, large_buffer, number_of, turns_left};
 use crate::watches::{Watch, begun, tell};
-use input::{Block, read_block};
+use input::read_block;
 use look::{Seen, look_block};
 use std::io::{Read, Seek};
 use std::rt::Clock;
@@ -18,7 +18,7 @@ use value::Kind;
 #[derive(Clone, Copy)]
 pub struct Look {
     pub seen: Seen,
-    pub fault: Fault,
+    pub fault: Option<Fault>,
     pub turns: u64,
 }
 
@@ -66,7 +66,7 @@ fn look_in<R: Read + Seek>(
     let mut watch = begun(rt, w);
     let mut r = Look {
         seen: nothing_seen(),
-        fault: Fault::Nothing,
+        fault: None,
         turns: u64::MAX,
     };
     while r.turns > 0 {
@@ -83,30 +83,26 @@ fn look_on<R: Read>(input: &mut R, from: Kind, to: Kind, src: &mut Buffer, r: Lo
     ensures fewer { result.turns < r.turns }
     ensures step { Looked from to r src.new result }
 {
-    let before = r.seen;
-    let got = read_block(input, block_bytes(from, from), src);
-    if got.failed {
-        return Look {
-            seen: before,
-            fault: Fault::Reading(got.errno),
+    match read_block(input, block_bytes(from, from), src) {
+        Ok(got) => look_at(&src[..got.bytes], got.full, from, to, r),
+        Err(e) => Look {
+            fault: Some(Fault::Reading(number_of(e))),
             turns: 0,
-        };
+            ..r
+        },
     }
-    look_at(got, from, to, src, r)
 }
 
 // What was read, and no more, is the next block.
-fn look_at(got: Block, from: Kind, to: Kind, src: &[u8], r: Look) -> Look
+fn look_at(block: &[u8], full: bool, from: Kind, to: Kind, r: Look) -> Look
     requires some { 0 < r.turns }
-    requires read { got.bytes ≤ length src.now }
-    requires full { got.full ≡ eqb got.bytes (block_bytes from from) }
+    requires full { full ≡ eqb (length block.now) (block_bytes from from) }
     ensures fewer { result.turns < r.turns }
-    ensures step { LookedOn from to r (take got.bytes src.now) result }
+    ensures step { LookedOn from to r block.now result }
 {
-    let before = r.seen;
     Look {
-        seen: look_block(before, from, to, &src[..got.bytes]),
-        fault: Fault::Nothing,
-        turns: turns_left(r.turns, got.full, Fault::Nothing),
+        seen: look_block(r.seen, from, to, block),
+        fault: None,
+        turns: turns_left(r.turns, full, None),
     }
 }

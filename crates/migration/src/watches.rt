@@ -2,28 +2,25 @@
 use std::io::Seek;
 use std::rt::Clock;
 
-// Whether lines are wanted, the bytes of the file, 0 where they aren't known, and the second of the last line.
-#[derive(Clone, Copy)]
+// Whether lines are wanted, the bytes of the file, if they are known, and the second of the last line.
+#[derive(Clone, Copy, Debug, PartialEq, Eq)]
 pub struct Watch {
     pub wanted: bool,
-    pub bytes: u64,
-    pub second: i64,
+    pub bytes: Option<u64>,
+    pub second: Option<u64>,
 }
 
-// Of a clock that can't be read, 0: then no line is told.
-fn second_now(rt: &impl Clock) -> i64 {
-    match rt.since_1970() {
-        Ok(time) => time.as_secs().cast_signed(),
-        Err(_) => 0,
-    }
+// None of a clock that can't be read: then no line is told.
+fn second_now(rt: &impl Clock) -> Option<u64> {
+    let time = rt.since_1970().ok()?;
+    Some(time.as_secs())
 }
 
 // The same, from now on.
 pub(crate) fn begun(rt: &impl Clock, w: Watch) -> Watch {
     Watch {
-        wanted: w.wanted,
-        bytes: w.bytes,
         second: second_now(rt),
+        ..w
     }
 }
 
@@ -42,11 +39,7 @@ pub(crate) fn tell<S: Seek>(
         return w;
     }
     put_samples(rt, samples as u64, place_in(input), w.bytes);
-    Watch {
-        wanted: true,
-        bytes: w.bytes,
-        second,
-    }
+    Watch { second, ..w }
 }
 
 // How far a file is read, 0 where the system doesn't say.
@@ -55,17 +48,17 @@ fn place_in<S: Seek>(input: &mut S) -> u64 {
 }
 
 // A line that can't be written is lost, and nothing else.
-fn put_samples(rt: &impl Eprint, samples: u64, place: u64, bytes: u64) {
-    let _ = if bytes > 0 {
-        let hundredths = percent(place, bytes);
-        eprintln!(rt; "samples so far: {samples} ({hundredths} %)")
-    } else {
-        eprintln!(rt; "samples so far: {samples}")
+fn put_samples(rt: &impl Eprint, samples: u64, place: u64, bytes: Option<u64>) {
+    let _ = match bytes {
+        None | Some(0) => eprintln!(rt; "samples so far: {samples}"),
+        Some(bytes) => {
+            let hundredths = percent(place, bytes);
+            eprintln!(rt; "samples so far: {samples} ({hundredths} %)")
+        }
     };
 }
 
 // How many hundredths of the whole a part is; of one that has outgrown it, 100.
 fn percent(part: u64, whole: u64) -> u64 {
-    let hundredths = part / (whole / 100 + 1);
-    if hundredths > 100 { 100 } else { hundredths }
+    (part / (whole / 100 + 1)).min(100)
 }

@@ -4,7 +4,7 @@ ghost use Rattle.strip.specs.SheetTheorem.{blank};
 ghost use Rattle.sheet.specs.Runs.{buffer_bytes, block_bytes, turns_left, TellsBlock, Runs};
 ghost use Rattle.sheet.specs.Inner.{Stepped};
 
-use input::{Block, read_block};
+use input::read_block;
 use std::io::Read;
 use strip::{MOST, Sheet, tally_block};
 
@@ -98,7 +98,7 @@ fn step<R: Read>(input: &mut R, src: &mut Buffer, r: Telling) -> Telling
 {
     let before = r.sheet;
     match read_block(input, block_bytes(before.samples), src) {
-        Ok(got) => tell(got, src, r),
+        Ok(got) => tell(&src[..got.bytes], got.full, r),
         Err(e) => Telling {
             sheet: before,
             fault: Some(e.raw_os_error().unwrap_or(0)),
@@ -108,16 +108,15 @@ fn step<R: Read>(input: &mut R, src: &mut Buffer, r: Telling) -> Telling
 }
 
 // What was read, and no more, is the next block.
-fn tell(got: Block, src: &[u8], r: Telling) -> Telling
+fn tell(block: &[u8], full: bool, r: Telling) -> Telling
     requires some { 0 < r.turns }
-    requires read { (got.bytes ≤ length src.now) × (got.bytes ≤ block_bytes r.sheet.samples) }
-    requires full { got.full ≡ eqb got.bytes (block_bytes r.sheet.samples) }
+    requires read { length block.now ≤ block_bytes r.sheet.samples }
+    requires full { full ≡ eqb (length block.now) (block_bytes r.sheet.samples) }
     ensures fewer { result.turns < r.turns }
-    ensures step { TellsBlock r (take got.bytes src.now) result }
+    ensures step { TellsBlock r block.now result }
 {
-    let before = r.sheet;
-    let sheet = tally_block(before, &src[..got.bytes]);
-    let turns = turns_left(r.turns, got.full, sheet.samples);
+    let sheet = tally_block(r.sheet, block);
+    let turns = turns_left(r.turns, full, sheet.samples);
     Telling {
         sheet,
         fault: None,
