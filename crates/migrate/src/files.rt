@@ -16,11 +16,6 @@ pub(crate) const ENAMETOOLONG: i32 = 36;
 
 const EILSEQ: i32 = 84;
 
-// The system's number of an error, 0 where it has none.
-pub(crate) fn number_of(e: io::Error) -> i32 {
-    e.raw_os_error().unwrap_or(0)
-}
-
 // Puts an argument at the front of a buffer: how many bytes it has, 0 where there is none. Of one that is longer, its front fills the buffer.
 pub(crate) fn argument(rt: HostRuntime, i: usize, buf: &mut [u8]) -> usize
     ensures { result ≤ length buf.new }
@@ -41,22 +36,19 @@ pub(crate) fn is_argument(rt: HostRuntime, i: usize) -> bool {
     }
 }
 
-// An argument as a path, or the number of an error: it is longer than a path may be, or no text.
-pub(crate) fn path_in(rt: HostRuntime, i: usize, buf: &mut [u8; 4096]) -> Result<&str, i32> {
+// An argument as a path, or an error: it is longer than a path may be, or no text.
+pub(crate) fn path_in(rt: HostRuntime, i: usize, buf: &mut [u8; 4096]) -> io::Result<&str> {
     let n = match rt.arg(i, buf) {
         Ok(n) => n,
-        Err(FillError::TooLong) => return Err(ENAMETOOLONG),
+        Err(FillError::TooLong) => return Err(io::Error::from_raw_os_error(ENAMETOOLONG)),
         Err(FillError::NotPresent) => 0,
     };
     text_of(&buf[..n])
 }
 
 // Bytes as text.
-pub(crate) fn text_of(bytes: &[u8]) -> Result<&str, i32> {
-    match str::from_utf8(bytes) {
-        Ok(text) => Ok(text),
-        Err(_) => Err(EILSEQ),
-    }
+pub(crate) fn text_of(bytes: &[u8]) -> io::Result<&str> {
+    str::from_utf8(bytes).map_err(|_| io::Error::from_raw_os_error(EILSEQ))
 }
 
 // IN for reading, or nothing after a line that says why.
@@ -64,15 +56,15 @@ pub(crate) fn open_in(rt: HostRuntime, in_arg: usize, raw: bool) -> io::Result<O
     let mut buf = [0u8; 4096];
     let path = match path_in(rt, in_arg, &mut buf) {
         Ok(path) => path,
-        Err(errno) => {
-            put_failure(rt, b"IN can't be opened", errno)?;
+        Err(e) => {
+            put_failure(rt, b"IN can't be opened", e)?;
             return Ok(None);
         }
     };
     let input = match File::open(&rt, path) {
         Ok(input) => input,
         Err(e) => {
-            put_failure(rt, b"IN can't be opened", number_of(e))?;
+            put_failure(rt, b"IN can't be opened", e)?;
             return Ok(None);
         }
     };
@@ -108,70 +100,40 @@ pub(crate) fn size_of(file: &mut File) -> Option<u64> {
 }
 
 fn end_of(file: &mut File) -> Option<u64> {
-    match file.seek(SeekFrom::End(0)) {
-        Ok(size) => Some(size),
-        Err(_) => None,
-    }
-}
-
-fn place_in(file: &mut File) -> Option<u64> {
-    match file.stream_position() {
-        Ok(place) => Some(place),
-        Err(_) => None,
-    }
+    file.seek(SeekFrom::End(0)).ok()
 }
 
 // Whether a file of this size has another by now, or more or less was read of it.
 pub(crate) fn is_changed(file: &mut File, size: Option<u64>) -> bool {
-    let Some(size) = size else {
+    if size.is_none() {
         return false;
-    };
-    let read = place_in(file);
-    let now = end_of(file);
-    !(is_number(read, size) & is_number(now, size))
-}
-
-fn is_number(found: Option<u64>, n: u64) -> bool {
-    match found {
-        Some(m) => m == n,
-        None => false,
     }
+    let read = file.stream_position().ok();
+    let now = end_of(file);
+    (read != size) | (now != size)
 }
 
 // Whether a file has no byte; no file that has no length has none.
 pub(crate) fn is_empty(file: &mut File) -> bool {
-    is_number(end_of(file), 0)
+    end_of(file) == Some(0)
 }
 
 // Lines of progress are for a terminal, or for who asks for them.
 pub(crate) fn watched(rt: HostRuntime, progress: bool, size: Option<u64>) -> Watch {
     Watch {
         wanted: progress | rt.stderr().is_terminal(),
-        bytes: size.unwrap_or(0),
-        second: 0,
+        bytes: size,
+        second: None,
     }
 }
 
-// A byte of a path and what stands behind it, and 0 behind both.
-fn byte_of(path: &[u8], tail: &[u8], i: usize) -> u8 {
-    if i < path.len() {
-        return path[i];
-    }
-    if i - path.len() < tail.len() {
-        return tail[i - path.len()];
-    }
-    0
-}
-
-// These bytes, as far as there is room.
+// These bytes and zeros behind them, as far as there is room.
 pub(crate) fn joined(path: &[u8], tail: &[u8]) -> [u8; 4096]
     ensures { 4096 ≡ length result }
 {
     let mut all = [0u8; 4096];
-    let mut i = 0;
-    while i < 4096 {
-        all[i] = byte_of(path, tail, i);
-        i += 1;
+    for (place, b) in all.iter_mut().zip(path.iter().chain(tail)) {
+        *place = *b;
     }
     all
 }

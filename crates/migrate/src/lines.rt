@@ -117,40 +117,31 @@ pub(crate) fn put_error(rt: HostRuntime, what: &[u8]) -> io::Result<()> {
     Ok(())
 }
 
-// What failed, and why by the system's number.
-pub(crate) fn put_failure(rt: HostRuntime, what: &[u8], errno: i32) -> io::Result<()> {
+// What failed, and why by the system's number, 0 where it gave none.
+pub(crate) fn put_failure(rt: HostRuntime, what: &[u8], e: io::Error) -> io::Result<()> {
     put_text(rt, b"error=")?;
     put_text(rt, what)?;
     put_text(rt, b": ")?;
-    put_cause(rt, errno)?;
+    put_cause(rt, e.raw_os_error().unwrap_or(0))?;
     put_text(rt, b"\n")?;
     Ok(())
 }
 
 fn put_cause(rt: HostRuntime, errno: i32) -> io::Result<()> {
-    if errno == ENOENT {
-        put_text(rt, b"there is no such file or folder")?;
-    } else if errno == EEXIST {
-        put_text(rt, b"it is there already")?;
-    } else if errno == EACCES {
-        put_text(rt, b"it is not permitted")?;
-    } else if errno == EISDIR {
-        put_text(rt, b"it is a folder")?;
-    } else if errno == ENOTDIR {
-        put_text(rt, b"a part of the path is no folder")?;
-    } else if errno == ENOSPC {
-        put_text(rt, b"no space is left")?;
-    } else if errno == EFBIG {
-        put_text(rt, b"the file grows too large")?;
-    } else if errno == ENAMETOOLONG {
-        put_text(rt, b"the name is too long")?;
-    } else if errno == EROFS {
-        put_text(rt, b"nothing can be written there")?;
-    } else if errno == EIO {
-        put_text(rt, b"the device failed")?;
-    } else {
-        put_text(rt, b"the system refuses it, with error ")?;
-        put_decimal(rt, bits_of(Value::I32(errno)))?;
+    match errno {
+        ENOENT => put_text(rt, b"there is no such file or folder"),
+        EEXIST => put_text(rt, b"it is there already"),
+        EACCES => put_text(rt, b"it is not permitted"),
+        EISDIR => put_text(rt, b"it is a folder"),
+        ENOTDIR => put_text(rt, b"a part of the path is no folder"),
+        ENOSPC => put_text(rt, b"no space is left"),
+        EFBIG => put_text(rt, b"the file grows too large"),
+        ENAMETOOLONG => put_text(rt, b"the name is too long"),
+        EROFS => put_text(rt, b"nothing can be written there"),
+        EIO => put_text(rt, b"the device failed"),
+        _ => {
+            put_text(rt, b"the system refuses it, with error ")?;
+            put_decimal(rt, bits_of(Value::I32(errno)))
+        }
     }
-    Ok(())
 }

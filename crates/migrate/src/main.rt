@@ -16,7 +16,7 @@ use lines::{put_error, put_no_kind};
 use moves::migrate;
 use reports::report;
 use std::io;
-use text::{kind_named, word_number};
+use text::kind_named;
 use value::Kind;
 
 // What was asked for beside the words, and the place of the first word. `into` is for a caller that makes, names and removes OUT itself.
@@ -30,10 +30,10 @@ pub(crate) struct Options {
 }
 
 fn main(rt: HostRuntime) -> io::Result<()> {
-    let o = with_next(
-        rt,
-        with_next(rt, with_next(rt, with_next(rt, no_options()))),
-    );
+    let mut o = no_options();
+    for _ in 0..4 {
+        o = with_next(rt, o);
+    }
     let words = words_behind(rt, o.first);
     let asked = says(rt, o.first, b"report");
     if asked & (words == 3) {
@@ -75,16 +75,29 @@ fn no_options() -> Options {
 fn with_next(rt: HostRuntime, o: Options) -> Options {
     let mut name = [0u8; 16];
     let n = argument(rt, o.first, &mut name);
-    let option = word_number(&name[..n], b"--raw --progress --no-sync --into");
-    if option > 3 {
-        return o;
-    }
-    Options {
-        first: o.first.wrapping_add(1),
-        raw: o.raw | (option == 0),
-        progress: o.progress | (option == 1),
-        unsynced: o.unsynced | (option == 2),
-        into: o.into | (option == 3),
+    let first = o.first.wrapping_add(1);
+    match &name[..n] {
+        b"--raw" => Options {
+            first,
+            raw: true,
+            ..o
+        },
+        b"--progress" => Options {
+            first,
+            progress: true,
+            ..o
+        },
+        b"--no-sync" => Options {
+            first,
+            unsynced: true,
+            ..o
+        },
+        b"--into" => Options {
+            first,
+            into: true,
+            ..o
+        },
+        _ => o,
     }
 }
 
@@ -92,7 +105,7 @@ fn with_next(rt: HostRuntime, o: Options) -> Options {
 fn says(rt: HostRuntime, i: usize, word: &[u8]) -> bool {
     let mut name = [0u8; 8];
     let n = argument(rt, i, &mut name);
-    word_number(&name[..n], word) == 0
+    &name[..n] == word
 }
 
 fn move_file(rt: HostRuntime, o: Options) -> io::Result<()> {

@@ -4,8 +4,8 @@ ghost use Rattle.std.specs.Prelude.{◌≤◌, length};
 
 use crate::Options;
 use crate::files::{
-    ENAMETOOLONG, is_changed, is_empty, is_standard, is_taken, joined, number_of, open_in, path_in,
-    size_of, text_of, watched,
+    ENAMETOOLONG, is_changed, is_empty, is_standard, is_taken, joined, open_in, path_in, size_of,
+    text_of, watched,
 };
 use crate::lines::{put_error, put_failure, put_number, put_refusal};
 use crate::names::made_beside;
@@ -42,7 +42,7 @@ fn migrate_from(
 ) -> io::Result<()> {
     let mut buf = [0u8; 4096];
     match path_in(rt, out_arg, &mut buf) {
-        Err(errno) => put_failure(rt, b"OUT can't be made", errno)?,
+        Err(e) => put_failure(rt, b"OUT can't be made", e)?,
         Ok(out) => if out.is_empty() {
             put_error(rt, b"OUT has no name")?;
         } else if o.into {
@@ -66,7 +66,7 @@ fn migrate_into(
     o: Options,
 ) -> io::Result<()> {
     match OpenOptions::new().read(true).write(true).open(&rt, out) {
-        Err(e) => put_failure(rt, b"OUT can't be opened", number_of(e))?,
+        Err(e) => put_failure(rt, b"OUT can't be opened", e)?,
         Ok(output) => if !is_standard(rt, &output)? {
             migrate_in(rt, input, output, from, to, o)?;
         },
@@ -119,7 +119,11 @@ fn migrate_beside(
     o: Options,
 ) -> io::Result<()> {
     if out.len() > 4083 {
-        put_failure(rt, b"OUT can't be made", ENAMETOOLONG)?;
+        put_failure(
+            rt,
+            b"OUT can't be made",
+            io::Error::from_raw_os_error(ENAMETOOLONG),
+        )?;
         return Ok(());
     }
     let n = out.len() + 12;
@@ -140,8 +144,8 @@ fn migrate_to(
     let made = made_beside(rt, part);
     match (made, text_of(part)) {
         (Ok(output), Ok(part)) => migrate_through(rt, input, output, from, to, out, part, o)?,
-        (Err(errno), _) => put_failure(rt, b"no file can be made beside OUT", errno)?,
-        (_, Err(errno)) => put_failure(rt, b"no file can be made beside OUT", errno)?,
+        (Err(e), _) => put_failure(rt, b"no file can be made beside OUT", e)?,
+        (_, Err(e)) => put_failure(rt, b"no file can be made beside OUT", e)?,
     }
     Ok(())
 }
@@ -165,13 +169,13 @@ fn migrate_through(
     let r = run(&rt, input, &mut output, from, to, watch);
     let changed = is_changed(input, size);
     let done = is_done(r, changed);
-    let failure = stored(output, done & !o.unsynced);
+    let kept = stored(output, done & !o.unsynced);
     if !done {
         removed(rt, part);
         put_answer(rt, r, changed)?;
-    } else if failure != 0 {
+    } else if let Err(e) = kept {
         removed(rt, part);
-        put_failure(rt, b"OUT can't be brought to the disk", failure)?;
+        put_failure(rt, b"OUT can't be brought to the disk", e)?;
     } else if named(rt, part, out, o)? {
         put_answer(rt, r, changed)?;
     }
@@ -184,30 +188,15 @@ fn removed(rt: HostRuntime, part: &str) {
 
 // Whether the run came to its end, nothing is refused, and IN is what it was.
 fn is_done(r: State, changed: bool) -> bool {
-    let fault = r.fault;
-    let progress = r.progress;
-    let answer = progress.answer;
-    match fault {
-        Fault::Nothing => !changed & is_given(answer),
-        _ => false,
-    }
+    !changed & r.fault.is_none() & r.progress.answer.is_ok()
 }
 
-fn is_given(answer: Result<(), Refusal>) -> bool {
-    match answer {
-        Ok(()) => true,
-        Err(_) => false,
-    }
-}
-
-// Brings a file to the disk, if that is asked for, and closes it: the number of the error, 0 for none.
-fn stored(file: File, synced: bool) -> i32 {
+// Brings a file to the disk, if that is asked for, and closes it.
+fn stored(file: File, synced: bool) -> io::Result<()> {
     if synced {
-        if let Err(e) = file.sync_all() {
-            return number_of(e);
-        }
+        file.sync_all()?;
     }
-    0
+    Ok(())
 }
 
 // Gives the output its name, unless something has it by now, and brings the folder to the disk: whether all went well; else a line says why.
@@ -219,80 +208,71 @@ fn named(rt: HostRuntime, part: &str, out: &str, o: Options) -> io::Result<bool>
     }
     if let Err(e) = fs::rename(&rt, part, out) {
         removed(rt, part);
-        put_failure(rt, b"the output can't be given the name OUT", number_of(e))?;
+        put_failure(rt, b"the output can't be given the name OUT", e)?;
         return Ok(false);
     }
     if o.unsynced {
         return Ok(true);
     }
-    let errno = folder_stored(rt, out.as_bytes());
-    if (errno != 0) & (errno != EINVAL) {
-        put_failure(
-            rt,
-            b"OUT is whole, but its folder can't be brought to the disk",
-            errno,
-        )?;
-        return Ok(false);
+    match folder_stored(rt, out.as_bytes()) {
+        Err(e) if e.raw_os_error() != Some(EINVAL) => {
+            put_failure(
+                rt,
+                b"OUT is whole, but its folder can't be brought to the disk",
+                e,
+            )?;
+            Ok(false)
+        }
+        _ => Ok(true),
     }
-    Ok(true)
 }
 
 // How many bytes of a path name its folder, with the slash behind it; 0 for a name alone.
 fn folder_bytes(path: &[u8]) -> usize
     ensures { result ≤ length path.now }
 {
-    let mut k = path.len();
-    while k > 0 {
-        if path[k - 1] == b'/' {
-            break;
-        }
-        k -= 1;
+    match path.iter().rposition(|&b| b == b'/') {
+        Some(at) => at + 1,
+        None => 0,
     }
-    k
 }
 
-// The number of the error, 0 for none; EINVAL on a file system that can't do this with a folder.
-fn folder_stored(rt: HostRuntime, path: &[u8]) -> i32 {
+// Brings the folder of a path to the disk; EINVAL on a file system that can't do this with a folder.
+fn folder_stored(rt: HostRuntime, path: &[u8]) -> io::Result<()> {
     let k = folder_bytes(path);
-    let opened = if k == 0 {
-        File::open(&rt, ".")
-    } else {
-        match text_of(&path[..k]) {
-            Ok(folder) => File::open(&rt, folder),
-            Err(errno) => return errno,
-        }
-    };
-    match opened {
-        Ok(folder) => stored(folder, true),
-        Err(e) => number_of(e),
-    }
+    let folder = if k == 0 { "." } else { text_of(&path[..k])? };
+    stored(File::open(&rt, folder)?, true)
 }
 
 // The lines of the answer.
 fn put_answer(rt: HostRuntime, r: State, changed: bool) -> io::Result<()> {
-    let fault = r.fault;
-    match fault {
-        Fault::Reading(errno) => put_failure(rt, b"IN can't be read", errno)?,
-        Fault::Writing(errno) => put_failure(rt, b"OUT can't be written", errno)?,
-        Fault::Nothing => {
-            if changed {
-                put_error(rt, b"IN changed while it was read")?;
-            } else {
-                put_result(rt, r)?;
-            }
-        }
+    match r.fault {
+        Some(fault) => put_fault(rt, fault),
+        None if changed => put_error(rt, b"IN changed while it was read"),
+        None => put_result(rt, r),
     }
-    Ok(())
+}
+
+// What failed, and why.
+pub(crate) fn put_fault(rt: HostRuntime, fault: Fault) -> io::Result<()> {
+    match fault {
+        Fault::Reading(errno) => put_failure(
+            rt,
+            b"IN can't be read",
+            io::Error::from_raw_os_error(errno),
+        ),
+        Fault::Writing(errno) => put_failure(
+            rt,
+            b"OUT can't be written",
+            io::Error::from_raw_os_error(errno),
+        ),
+    }
 }
 
 fn put_result(rt: HostRuntime, r: State) -> io::Result<()> {
-    let progress = r.progress;
-    let sample = r.sample;
-    let answer = progress.answer;
-    put_number(rt, b"samples=", progress.samples as u64)?;
-    match answer {
-        Ok(()) => put_number(rt, b"refused=", 0)?,
-        Err(f) => put_refusal(rt, f, sample)?,
+    put_number(rt, b"samples=", r.progress.samples as u64)?;
+    match r.progress.answer {
+        Ok(()) => put_number(rt, b"refused=", 0),
+        Err(f) => put_refusal(rt, f, r.sample),
     }
-    Ok(())
 }

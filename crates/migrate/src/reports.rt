@@ -1,10 +1,11 @@
 // A report on a file of samples: read through, nothing written but lines. What looks through a file is migration::look_through.
 use crate::Options;
 use crate::files::{is_changed, open_in, size_of, watched};
-use crate::lines::{put_error, put_failure, put_found, put_number, put_refusal};
+use crate::lines::{put_error, put_found, put_number, put_refusal};
+use crate::moves::put_fault;
 use crate::sentences::put_why;
 use look::Seen;
-use migration::{Fault, Look, look_through};
+use migration::{Look, look_through};
 use std::fs::File;
 use std::io;
 use value::{Kind, Refusal};
@@ -35,54 +36,36 @@ fn looked(rt: HostRuntime, mut input: File, from: Kind, to: Kind, o: Options) ->
 }
 
 fn put_look(rt: HostRuntime, r: Look, changed: bool, asked: bool) -> io::Result<()> {
-    let fault = r.fault;
-    let seen = r.seen;
-    match fault {
-        Fault::Reading(errno) => put_failure(rt, b"IN can't be read", errno)?,
-        _ => {
-            if changed {
-                put_error(rt, b"IN changed while it was read")?;
-            } else {
-                put_seen(rt, seen, asked)?;
-            }
-        }
+    match r.fault {
+        Some(fault) => put_fault(rt, fault),
+        None if changed => put_error(rt, b"IN changed while it was read"),
+        None => put_seen(rt, r.seen, asked),
     }
-    Ok(())
 }
 
-// Bytes left over are told alone: such a file isn't what it was taken for.
+// Bytes left over, which no sample is refused for, are told alone: such a file isn't what it was taken for.
 fn put_seen(rt: HostRuntime, s: Seen, asked: bool) -> io::Result<()> {
-    let answer = s.answer;
-    let lowest = s.lowest;
-    let highest = s.highest;
     put_number(rt, b"samples=", s.samples as u64)?;
-    if is_left_over(answer) {
-        put_left_over(rt, answer)?;
-        return Ok(());
+    match s.answer {
+        Err(f) if f.number == 9 => put_refusal(rt, f, None),
+        answer => put_all_seen(rt, s, asked, answer),
     }
+}
+
+fn put_all_seen(
+    rt: HostRuntime,
+    s: Seen,
+    asked: bool,
+    answer: Result<(), Refusal>,
+) -> io::Result<()> {
     put_number(rt, b"nan=", s.nans as u64)?;
     put_number(rt, b"infinite=", s.infinities as u64)?;
     put_number(rt, b"minus_zero=", s.minus_zeros as u64)?;
-    put_found(rt, b"lowest=", lowest)?;
-    put_found(rt, b"highest=", highest)?;
+    put_found(rt, b"lowest=", s.lowest)?;
+    put_found(rt, b"highest=", s.highest)?;
     if asked {
         put_number(rt, b"refusable=", s.refusable as u64)?;
         put_first(rt, answer)?;
-    }
-    Ok(())
-}
-
-// No sample is refused with 9.
-fn is_left_over(answer: Result<(), Refusal>) -> bool {
-    match answer {
-        Ok(()) => false,
-        Err(f) => f.number == 9,
-    }
-}
-
-fn put_left_over(rt: HostRuntime, answer: Result<(), Refusal>) -> io::Result<()> {
-    if let Err(f) = answer {
-        put_refusal(rt, f, None)?;
     }
     Ok(())
 }
