@@ -17,6 +17,7 @@ pub fn fill<R: Read>(from: &mut R, buf: &mut [u8]) -> io::Result<usize>
 {
     let n = buf.len();
     let mut at = 0;
+    // No index is counted here: a read says how far it comes.
     while at < n {
         let got = from.read(&mut buf[at..])?;
         if got == 0 {

@@ -24,7 +24,8 @@ const BUFFER_BYTES: usize = 262144;
 
 pub(crate) type Buffer = [u8; BUFFER_BYTES];
 
-// What stopped a run before its end: a read or a write, with the system's number, 0 where it gave none.
+// What stopped a run before its end: a read or a write, with the system's number, 0 where it gave none. A State is copied, which the library's
+// error can't be.
 #[derive(Clone, Copy, Debug, PartialEq, Eq)]
 pub enum Fault {
     Reading(i32),
@@ -73,7 +74,7 @@ fn start() -> Progress
     }
 }
 
-// Moves the whole of input to output.
+// Moves the whole of input to output. The two kinds stay apart here and below: every definition takes them apart.
 pub fn run<R: Read + Seek, W: Write>(
     rt: &(impl Clock + Eprint),
     input: &mut R,
@@ -109,6 +110,7 @@ fn run_in<R: Read + Seek, W: Write>(
         fault: None,
         turns: u64::MAX,
     };
+    // No index is counted here: a turn says how many are left.
     while r.turns > 0 {
         r = step(input, output, from, to, src, dst, r);
         let progress = r.progress;

@@ -69,6 +69,7 @@ fn look_in<R: Read + Seek>(
         fault: None,
         turns: u64::MAX,
     };
+    // No index is counted here: a turn says how many are left.
     while r.turns > 0 {
         r = look_on(input, from, to, src, r);
         let seen = r.seen;

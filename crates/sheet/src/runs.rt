@@ -13,7 +13,7 @@ const BUFFER_BYTES: usize = 131072;
 type Buffer = [u8; BUFFER_BYTES];
 
 // Where a run stands; `fault` is the system's number of a read that failed, 0 where it gave none, and `turns` how many blocks may still be read, 0
-// once the input has ended.
+// once the input has ended. The number stands for the error, which can't be copied.
 #[derive(Clone, Copy)]
 pub(crate) struct Telling {
     pub sheet: Sheet,
@@ -61,6 +61,7 @@ fn run_in<R: Read>(input: &mut R, src: &mut Buffer) -> Telling
         fault: None,
         turns: u64::MAX,
     };
+    // No index is counted here: a turn says how many are left.
     while r.turns > 0 {
         r = step(input, src, r);
     }
