@@ -27,7 +27,7 @@ pub enum Class {
     Nan,
 }
 
-// What a comparison answers.
+// What a comparison answers. No Option<Ordering>: the definitions and theorems over specs/Order.antt name its four cases.
 #[derive(Clone, Copy, Debug, PartialEq, Eq)]
 pub enum Order {
     Less,

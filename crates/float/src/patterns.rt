@@ -1,4 +1,5 @@
 // The patterns of the three formats: u16 of f16, u32 of f32, u64 of f64. RULES.md: Bits and classes, Total order.
+// A position's negation can't overflow: x is below the sign bit's weight, and -x - 1 reaches the lowest number of the width exactly.
 ghost use Rattle.std.specs.Prelude.{◌≡◌, ◌-◌, ◌≤◌, ◌^◌, ℕ, eqb, ltb, refl};
 ghost use Rattle.std.specs.Ordering.{partial_lt};
 ghost use Rattle.float.specs.Format.{Format, f16, f32, f64, fraction_of, sign_in, inf_in, position_in};
@@ -33,7 +34,7 @@ pub trait Pattern: Copy + PartialOrd + Sub<Output = Self> {
 
     ghost SIGN: { Self };
 
-    // Its place in the total order.
+    // Its place in the total order. A body for each width: casts, `%` and `-` of any width would be six laws in place of three lines.
     fn position(self) -> Self::Position
         ensures { Self.Position.integer result ≡ position_in format (whole self) };
 
