@@ -2,22 +2,24 @@
 -- A rising map that keeps 0 keeps the order of signed numbers; the scaled magnitude is such a map, and so is a change of unit.
 use mathlib.Core.Path.{◌≡◌, refl, sym, ◌∙◌, ap, subst}
 use mathlib.Core.Logic.{inl, inr}
-use mathlib.Core.Bool.{Bool, true, false, cond, true≢false}
+use mathlib.Core.Bool.{Bool, true, false, ◌||◌, ◌&&◌, cond, true≢false, and-eq-true_iff}
 use Prim.Native.Nat.{ℕ, zero, suc, ◌*◌, ◌≤◌, ◌<◌}
 use native.Mathlib.Nat.{lt_of_lt_of_le, mul-lt-mul_of_pos_right, zero-mul}
 use native.Mathlib.Omega.{arith}
-use borrow.Author.Tests.{lt-ltb, le-ltb, lt-leb, le-leb, eq-eqb, ne_eqb}
+use borrow.Author.Tests.{lt-ltb, le-ltb, lt-leb, le-leb, eq-eqb, ne_eqb, ltb-true, ltb-false, eqb-true}
 use lib.Dec.{ltb, eqb, eqb-suc-zero, leb-suc-suc}
-use lib.IntN.{ℤ}
-use Rattle.float.specs.Format.{sign_of, inf_of, negative_of, abs_of, mag_of}
+use lib.IntN.{ℤ, pos, negsuc}
+use Rattle.float.specs.Format.{sign_of, inf_of, negative_of, abs_of, mag_of, position_of}
+use Rattle.float.specs.Format.{Format, negative_in, abs_in, nan_in, zero_in, position_in}
 use Rattle.float.specs.Number.{signed_of, Exact, not_number, infinite, finite, times, Number, none, minusInfinity, plusInfinity, number}
 use Rattle.float.specs.Number.{infinity_of, number_of}
-use Rattle.float.specs.Order.{order_n, order_z, order_of, pattern_of, compare_of}
+use Rattle.float.specs.Order.{order_n, order_z, order_of, pattern_of, compare_of, compare_in}
 use Rattle.float.specs.declared.Order.{Order}
 use Rattle.float.specs.declared.Order.TheVariants.{Less, Equal, Greater, Unordered}
 use Rattle.float.proofs.Naturals.{lt_or_ge, three_ways, order_less, order_greater, order_equal}
+use Rattle.float.proofs.Formats.{inf_range}
 use Rattle.float.proofs.Magnitude.{abs_clear, mag_rises, mag_zero}
-use Rattle.float.proofs.Tests.{clash}
+use Rattle.float.proofs.Tests.{neither, clash}
 
 -- ---- rising maps
 
@@ -210,3 +212,58 @@ compare_signed p e a b h q u hx hy v w =
     cc (v, w)
     ∙ meaning_order p (inf_of p e) (negative_of p e a) (negative_of p e b) (abs_of p e a) (abs_of p e b) h
     (subst (λ (n : ℕ). n ≤ inf_of p e) q hx) (subst (λ (n : ℕ). n ≤ inf_of p e) u hy)
+
+-- ---- the comparison by its tests
+
+-- two zeros are equal whatever their signs, and any other two order as their positions
+zeros_equal : (s t : Bool) (x y : ℕ) → x ≡ 0 → y ≡ 0 → order_z (signed_of s x) (signed_of t y) ≡ Equal
+zeros_equal s t x y q u = by_sign_lem s x t y ∙ cc (q, u) ∙ go s t
+  where
+    go : (s t : Bool) → by_sign s 0 t 0 ≡ Equal
+    go false false = refl
+    go false true = refl
+    go true false = refl
+    go true true = refl
+
+not_both : (x y : ℕ) (o : Order) → (eqb x 0 && eqb y 0) ≡ false → o ≡ cond (eqb x 0) (cond (eqb y 0) Equal o) o
+not_both x y o = go (eqb x 0) (eqb y 0)
+  where
+    go : (u v : Bool) → (u && v) ≡ false → o ≡ cond u (cond v Equal o) o
+    go true true h = absurd (true≢false h)
+    go true false h = refl
+    go false v h = refl
+
+placed_order : (s t : Bool) (x y : ℕ) → (eqb x 0 && eqb y 0) ≡ false
+    → order_z (cond s (negsuc x) (pos x)) (cond t (negsuc y) (pos y)) ≡ order_z (signed_of s x) (signed_of t y)
+placed_order false false x y h = refl
+placed_order false true x y h = not_both x y Greater h ∙ sym (by_sign_lem false x true y)
+placed_order true false x y h = not_both x y Less h ∙ sym (by_sign_lem true x false y)
+placed_order true true x y h = sym (by_sign_lem true x true y)
+
+-- for a function that has the tests in locals
+module _ (f : Format) (a b : ℕ) {u v : Bool} (q : u ≡ nan_in f a) (r : v ≡ nan_in f b) where
+  pub compare_nan : (u || v) ≡ true → Unordered ≡ compare_in f a b
+  compare_nan = go u v (sym q) (sym r)
+    where
+      go : (u v : Bool) → nan_in f a ≡ u → nan_in f b ≡ v → (u || v) ≡ true → Unordered ≡ compare_in f a b
+      go true v l k h = compare_nan_left _ _ a b refl (ltb-true _ _ l)
+      go false v l k h = compare_nan_right _ _ a b refl (ltb-true _ _ (k ∙ h))
+
+  module _ (h : (u || v) ≡ false) {y z : Bool} (k : y ≡ zero_in f a) (l : z ≡ zero_in f b) where
+    by_numbers : order_z (signed_of (negative_in f a) (abs_in f a)) (signed_of (negative_in f b) (abs_in f b)) ≡ compare_in f a b
+    by_numbers =
+        let n = neither u v h in
+        compare_signed _ _ a b (inf_range f).0 refl refl (ltb-false _ _ (sym q ∙ n.0)) (ltb-false _ _ (sym r ∙ n.1)) refl refl
+
+    pub compare_zeros : (y && z) ≡ true → Equal ≡ compare_in f a b
+    compare_zeros t =
+        let both = (and-eq-true_iff y z).0 t in
+        let x0 = eqb-true (abs_in f a) 0 (sym k ∙ both.0) in
+        let y0 = eqb-true (abs_in f b) 0 (sym l ∙ both.1) in
+        sym (zeros_equal (negative_in f a) (negative_in f b) (abs_in f a) (abs_in f b) x0 y0) ∙ by_numbers
+
+    pub compare_placed : (y && z) ≡ false → {i j : ℤ} {o : Order} → i ≡ position_in f a → j ≡ position_in f b → o ≡ order_z i j → o ≡ compare_in f a b
+    unfolding position_of
+    compare_placed t m n g =
+        g ∙ cc (m, n)
+        ∙ placed_order (negative_in f a) (negative_in f b) (abs_in f a) (abs_in f b) (cc (k, l, t)) ∙ by_numbers

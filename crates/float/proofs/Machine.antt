@@ -1,6 +1,5 @@
--- The machine's signed operations that the crate uses, at any width: a test of order, -x and -x - 1.
+-- The machine's -x - 1 of a number below its sign bit's weight, at any width.
 use mathlib.Core.Path.{◌≡◌, refl, sym, ◌∙◌, subst}
-use mathlib.Core.Bool.{Bool}
 use Prim.Native.Nat.{ℕ, zero, suc, ◌-◌, ◌^◌, ◌<◌}
 use native.Mathlib.Nat.{add-zero}
 use native.Mathlib.Omega.{arith}
@@ -8,14 +7,10 @@ use borrow.Author.Tests.{lt-ltb}
 use lib.Dec.{lit<}
 use lib.Pow.{pow_pos}
 use lib.IntN.{ℤ, pos, negsuc, neg_ℤ, ◌-ℤ◌}
-use lib.Signed.{lt_z, mag}
+use lib.Signed.{mag}
 use mir.Syntax.{Width, w8, w16, w32, w64, w128}
 use mir.Val.{hbits, to_z, of_z, SFits}
 use mir.ValLaws.{to_z_pos, to_z-of_z}
-
--- a test of two signed numbers, which the machine reads back from their bits
-pub signed_test : {w : Width} {m n : ℤ} {t : Bool} → SFits w m → SFits w n → lt_z (to_z w (of_z w m)) (to_z w (of_z w n)) ≡ t → lt_z m n ≡ t
-signed_test {w} {m} {n} {t} f g h = rw (to_z-of_z w m f, to_z-of_z w n g) at h
 
 one_fits : (w : Width) → 1 < 2 ^ hbits w
 one_fits w8 = lit< tt
@@ -40,16 +35,16 @@ module _ (w : Width) (x : ℕ) (h : x < 2 ^ hbits w) where
   neg_is : to_z w 0 -ℤ to_z w x ≡ neg_ℤ (pos x)
   neg_is = rw (to_z_pos w 0 (pow_pos (hbits w)), to_z_pos w x h) (negated x)
 
-  pub neg_fits : SFits w (to_z w 0 -ℤ to_z w x)
+  neg_fits : SFits w (to_z w 0 -ℤ to_z w x)
   neg_fits = subst (λ (z : ℤ). SFits w z) (sym neg_is) (record { sfits = neg_small x h })
 
-  pub neg_back : to_z w (of_z w (to_z w 0 -ℤ to_z w x)) ≡ neg_ℤ (pos x)
+  neg_back : to_z w (of_z w (to_z w 0 -ℤ to_z w x)) ≡ neg_ℤ (pos x)
   neg_back = to_z-of_z w _ neg_fits ∙ neg_is
 
   down_is : to_z w (of_z w (to_z w 0 -ℤ to_z w x)) -ℤ to_z w 1 ≡ negsuc x
   down_is = rw (neg_back, to_z_pos w 1 (one_fits w)) (less_one x)
 
-  pub down_fits : SFits w (to_z w (of_z w (to_z w 0 -ℤ to_z w x)) -ℤ to_z w 1)
+  down_fits : SFits w (to_z w (of_z w (to_z w 0 -ℤ to_z w x)) -ℤ to_z w 1)
   down_fits = subst (λ (z : ℤ). SFits w z) (sym down_is) (record { sfits = h })
 
   pub down_back : to_z w (of_z w (to_z w (of_z w (to_z w 0 -ℤ to_z w x)) -ℤ to_z w 1)) ≡ negsuc x

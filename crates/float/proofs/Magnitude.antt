@@ -1,6 +1,6 @@
 -- The sign, abs and the scaled magnitude of a pattern, over (p, e). The scaled magnitude strictly rises with abs:
 -- within one exponent the fraction decides, and a higher exponent at least doubles what the lower one can reach.
-use mathlib.Core.Path.{◌≡◌, refl, sym, ◌∙◌, ap, subst, subst⁻¹}
+use mathlib.Core.Path.{◌≡◌, refl, sym, ◌∙◌, ap, subst}
 use mathlib.Core.Bool.{Bool, true, false}
 use mathlib.Core.Logic.{inl, inr}
 use Prim.Native.Nat.{ℕ, zero, suc, ◌+◌, ◌-◌, ◌*◌, ◌/◌, ◌%◌, ◌^◌, ◌≤◌, ◌<◌}
@@ -8,11 +8,12 @@ use native.Mathlib.Nat.{eq-or-lt_of_le, le_trans, lt_of_lt_of_le, mul-lt-mul_of_
 use native.Mathlib.Nat.{mul_comm, pow-suc, pow-zero, mul-one, mod-lt, le_of_lt, le_of_eq, zero-div, zero-mod, div-eq_of_lt, mod-eq_of_lt}
 use native.Mathlib.Nat.{div_self, mod_self, suc-mul, add-zero, add_comm}
 use native.Mathlib.Omega.{arith}
-use borrow.Author.Tests.{le-leb, lt-leb}
+use borrow.Author.Tests.{le-leb, lt-leb, ltb-true, ltb-false}
+use lib.Dec.{ltb}
 use lib.Pow.{pow_pos, pow_mono, shr_mono, split, high, low, high_ones}
-use lib.IntN.{pos, neg_ℤ, nat_abs}
+use lib.IntN.{nat_abs}
 use Rattle.float.specs.Number.{signed_of}
-use Rattle.float.specs.Format.{inf_of, negative_of, abs_of, mag_at, mag_of}
+use Rattle.float.specs.Format.{sign_of, inf_of, abs_of, mag_at, mag_of}
 use Rattle.float.specs.ClassMeaning.{largest_of}
 use Rattle.float.proofs.Naturals.{lt_or_ge}
 
@@ -26,21 +27,18 @@ pub abs_set : (p e b : ℕ) → 2 ^ (p + e) ≤ b → abs_of p e b ≡ b - 2 ^ (
 unfolding abs_of
 abs_set p e b h = simp (le-leb _ _ h)
 
+-- for a function, by its test
+pub abs_below : (p e b : ℕ) → ltb b (sign_of p e) ≡ true → b ≡ abs_of p e b
+abs_below p e b t = sym (abs_clear p e b (ltb-true _ _ t))
+
+pub abs_reached : (p e b s : ℕ) {x : ℕ} → x ≡ b - s → s ≡ sign_of p e → ltb b s ≡ false → x ≡ abs_of p e b
+abs_reached p e b s q r t = q ∙ ap (λ (n : ℕ). b - n) r ∙ sym (abs_set p e b (ltb-false _ _ (cc (r, t))))
+
 pub abs_lt : (p e b : ℕ) → b < 2 * 2 ^ (p + e) → abs_of p e b < 2 ^ (p + e)
 abs_lt p e b h = elim (lt_or_ge b (2 ^ (p + e))) [
   | inl l ↦ rw (abs_clear p e b l) l
   | inr g ↦ rw (abs_set p e b g) (omega arith)
 ]
-
--- for a function that has abs in a local
-pub abs_fits : (p e b : ℕ) {x : ℕ} → x ≡ abs_of p e b → b < 2 * 2 ^ (p + e) → x < 2 ^ (p + e)
-abs_fits p e b q h = subst⁻¹ (λ (n : ℕ). n < 2 ^ (p + e)) q (abs_lt p e b h)
-
-pub signed_clear : (p e b : ℕ) {x : ℕ} → x ≡ abs_of p e b → b < 2 ^ (p + e) → pos x ≡ signed_of (negative_of p e b) (abs_of p e b)
-signed_clear p e b q h = simp (lt-leb _ _ h) (ap pos q)
-
-pub signed_set : (p e b : ℕ) {x : ℕ} → x ≡ abs_of p e b → 2 ^ (p + e) ≤ b → neg_ℤ (pos x) ≡ signed_of (negative_of p e b) (abs_of p e b)
-signed_set p e b q h = simp (le-leb _ _ h) (ap (λ (n : ℕ). neg_ℤ (pos n)) q)
 
 pub abs_signed : (s : Bool) (m : ℕ) → nat_abs (signed_of s m) ≡ m
 abs_signed false m = refl

@@ -7,7 +7,8 @@ use native.Mathlib.Nat.{eq-or-lt_of_le}
 use native.Mathlib.Omega.{arith}
 use borrow.Author.Tests.{lt-ltb, le-ltb, ltb-true, ltb-false, eq-eqb, ne_eqb}
 use lib.Dec.{ltb, eqb}
-use Rattle.float.specs.Order.{order_n, is_less, is_equal}
+use lib.IntN.{pos}
+use Rattle.float.specs.Order.{order_n, order_z, is_less, is_equal}
 use Rattle.float.specs.declared.Order.TheVariants.{Less, Equal, Greater}
 
 by_test : (a b : ℕ) (t : Bool) → ltb a b ≡ t → (a < b) ⊎ (b ≤ a)
@@ -31,6 +32,10 @@ order_greater m n h = let l : n ≤ m = omega arith in simp (le-ltb m n l, lt-lt
 
 pub order_equal : (m n : ℕ) → m ≡ n → order_n m n ≡ Equal
 order_equal m n q = let l : n ≤ m = omega arith in let k : m ≤ n = omega arith in simp (le-ltb m n l, le-ltb n m k)
+
+-- of natural numbers, the order of integers is that order
+pub order_naturals : (m n : ℕ) → order_z (pos m) (pos n) ≡ order_n m n
+order_naturals m n = refl
 
 -- two tests of that order, as tests of the numbers
 pub less_test : (m n : ℕ) → is_less (order_n m n) ≡ ltb m n

@@ -2,19 +2,20 @@
 use mathlib.Core.Path.{◌≡◌, refl, sym, ◌∙◌, ap}
 use mathlib.Core.Logic.{inl, inr}
 use mathlib.Core.Bool.{Bool, true, false, cond}
-use Prim.Native.Nat.{ℕ, ◌+◌, ◌-◌, ◌*◌, ◌^◌, ◌≤◌, ◌<◌}
+use Prim.Native.Nat.{ℕ, ◌+◌, ◌-◌, ◌*◌, ◌%◌, ◌^◌, ◌≤◌, ◌<◌}
+use native.Mathlib.Nat.{mod-lt, mod-eq_of_lt, mod-eq-sub-mod}
 use native.Mathlib.Omega.{arith}
 use borrow.Author.Tests.{le-leb, lt-leb}
 use lib.Pow.{pow_pos}
 use lib.IntN.{ℤ, pos, negsuc, ◌-ℤ◌}
 use lib.Signed.{mag}
 use mir.Syntax.{Width, w16, w32, w64}
-use mir.Val.{hbits, to_z, of_z, SFits}
+use mir.Val.{hbits, to_z, of_z}
 use mir.ValLaws.{to_z_pos}
 use Rattle.float.specs.Format.{negative_of, abs_of, position_of}
 use Rattle.float.proofs.Naturals.{lt_or_ge}
 use Rattle.float.proofs.Magnitude.{abs_clear, abs_set, abs_lt}
-use Rattle.float.proofs.Machine.{down_fits, down_back}
+use Rattle.float.proofs.Machine.{down_back}
 
 -- for a function that has abs in a local
 pub position_clear : (p e b : ℕ) {x : ℕ} → x ≡ abs_of p e b → b < 2 ^ (p + e) → pos x ≡ position_of p e b
@@ -29,47 +30,37 @@ position_set p e b q h = simp (le-leb _ _ h) (ap negsuc q)
 abbrev down : Width → ℕ → ℤ
 down w x = to_z w (of_z w (to_z w 0 -ℤ to_z w x)) -ℤ to_z w 1
 
--- the machine makes the position of abs: abs itself for a clear sign bit, -abs - 1 for a set one
-module _ (w : Width) (p e : ℕ) (h : hbits w ≡ p + e) (b : ℕ) (l : b < 2 * 2 ^ (p + e)) where
-  below_half : abs_of p e b < 2 ^ hbits w
-  below_half = rw h (abs_lt p e b l)
+-- the machine makes the position of abs, the rest by the sign's weight: abs itself for a clear sign bit, -abs - 1 for a set one
+module _ (w : Width) (p e : ℕ) (h : hbits w ≡ p + e) (b : ℕ) where
+  below_half : b % 2 ^ (p + e) < 2 ^ hbits w
+  below_half = rw h (mod-lt b (pow_pos (p + e)))
 
-  clear_at : b < 2 ^ (p + e) → to_z w (abs_of p e b) ≡ position_of p e b
-  clear_at k = to_z_pos w (abs_of p e b) below_half ∙ position_clear p e b refl k
+  clear_at : b < 2 ^ (p + e) → to_z w (b % 2 ^ (p + e)) ≡ position_of p e b
+  clear_at k = to_z_pos w (b % 2 ^ (p + e)) below_half ∙ position_clear p e b (mod-eq_of_lt k ∙ sym (abs_clear p e b k)) k
 
-  set_at : 2 ^ (p + e) ≤ b → to_z w (of_z w (down w (abs_of p e b))) ≡ position_of p e b
-  set_at k = down_back w (abs_of p e b) below_half ∙ position_set p e b refl k
-
-  down_at : SFits w (down w (abs_of p e b))
-  down_at = down_fits w (abs_of p e b) below_half
+  set_at : b < 2 * 2 ^ (p + e) → 2 ^ (p + e) ≤ b → to_z w (of_z w (down w (b % 2 ^ (p + e)))) ≡ position_of p e b
+  set_at l k =
+      down_back w (b % 2 ^ (p + e)) below_half
+      ∙ position_set p e b (mod-eq-sub-mod k ∙ mod-eq_of_lt (omega arith) ∙ sym (abs_set p e b k)) k
 
 -- the same at the three widths, as the functions' attributes name it
-pub clear_f16 : (b : ℕ) → b < 2 ^ 16 → b < 2 ^ 15 → to_z w16 (abs_of 10 5 b) ≡ position_of 10 5 b
+pub clear_f16 : (b : ℕ) → b < 2 ^ 15 → to_z w16 (b % 2 ^ 15) ≡ position_of 10 5 b
 clear_f16 = clear_at w16 10 5 refl
 
-pub set_f16 : (b : ℕ) → b < 2 ^ 16 → 2 ^ 15 ≤ b → to_z w16 (of_z w16 (down w16 (abs_of 10 5 b))) ≡ position_of 10 5 b
+pub set_f16 : (b : ℕ) → b < 2 ^ 16 → 2 ^ 15 ≤ b → to_z w16 (of_z w16 (down w16 (b % 2 ^ 15))) ≡ position_of 10 5 b
 set_f16 = set_at w16 10 5 refl
 
-pub down_f16 : (b : ℕ) → b < 2 ^ 16 → SFits w16 (down w16 (abs_of 10 5 b))
-down_f16 = down_at w16 10 5 refl
-
-pub clear_f32 : (b : ℕ) → b < 2 ^ 32 → b < 2 ^ 31 → to_z w32 (abs_of 23 8 b) ≡ position_of 23 8 b
+pub clear_f32 : (b : ℕ) → b < 2 ^ 31 → to_z w32 (b % 2 ^ 31) ≡ position_of 23 8 b
 clear_f32 = clear_at w32 23 8 refl
 
-pub set_f32 : (b : ℕ) → b < 2 ^ 32 → 2 ^ 31 ≤ b → to_z w32 (of_z w32 (down w32 (abs_of 23 8 b))) ≡ position_of 23 8 b
+pub set_f32 : (b : ℕ) → b < 2 ^ 32 → 2 ^ 31 ≤ b → to_z w32 (of_z w32 (down w32 (b % 2 ^ 31))) ≡ position_of 23 8 b
 set_f32 = set_at w32 23 8 refl
 
-pub down_f32 : (b : ℕ) → b < 2 ^ 32 → SFits w32 (down w32 (abs_of 23 8 b))
-down_f32 = down_at w32 23 8 refl
-
-pub clear_f64 : (b : ℕ) → b < 2 ^ 64 → b < 2 ^ 63 → to_z w64 (abs_of 52 11 b) ≡ position_of 52 11 b
+pub clear_f64 : (b : ℕ) → b < 2 ^ 63 → to_z w64 (b % 2 ^ 63) ≡ position_of 52 11 b
 clear_f64 = clear_at w64 52 11 refl
 
-pub set_f64 : (b : ℕ) → b < 2 ^ 64 → 2 ^ 63 ≤ b → to_z w64 (of_z w64 (down w64 (abs_of 52 11 b))) ≡ position_of 52 11 b
+pub set_f64 : (b : ℕ) → b < 2 ^ 64 → 2 ^ 63 ≤ b → to_z w64 (of_z w64 (down w64 (b % 2 ^ 63))) ≡ position_of 52 11 b
 set_f64 = set_at w64 52 11 refl
-
-pub down_f64 : (b : ℕ) → b < 2 ^ 64 → SFits w64 (down w64 (abs_of 52 11 b))
-down_f64 = down_at w64 52 11 refl
 
 -- every pattern has its own position: the pattern is read back from it
 abbrev pub pattern_at : ℕ → ℕ → ℤ → ℕ

@@ -9,3 +9,5 @@ pub mod Order
 pub mod ClassMeaning
 -- the language's formats among these
 pub mod Language
+-- how the numbers of the machine meet the laws of their traits
+pub mod Inner

@@ -5,17 +5,17 @@
 
 mod bits;
 mod classes;
+mod integers;
 mod orders;
+mod patterns;
 mod positions;
 
-pub use bits::{
-    abs_f16, abs_f32, abs_f64, is_finite_f16, is_finite_f32, is_finite_f64, is_infinite_f16,
-    is_infinite_f32, is_infinite_f64, is_nan_f16, is_nan_f32, is_nan_f64, is_sign_negative_f16,
-    is_sign_negative_f32, is_sign_negative_f64,
-};
-pub use classes::{class_f16, class_f32, class_f64};
-pub use orders::{compare_f16, compare_f32, compare_f64, order_i64, order_u64};
-pub use positions::{position_f16, position_f32, position_f64};
+pub use bits::{abs, is_finite, is_infinite, is_nan, is_sign_negative};
+pub use classes::classify;
+pub use integers::Integer;
+pub use orders::{compare, order_integers};
+pub use patterns::Pattern;
+pub use positions::position;
 
 // The class of a pattern.
 #[derive(Clone, Copy, Debug, PartialEq, Eq)]
@@ -27,7 +27,7 @@ pub enum Class {
     Nan,
 }
 
-// What a comparison answers.
+// What a comparison answers. No Option<Ordering>: the definitions and theorems over specs/Order.antt name its four cases.
 #[derive(Clone, Copy, Debug, PartialEq, Eq)]
 pub enum Order {
     Less,

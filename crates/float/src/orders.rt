@@ -1,15 +1,15 @@
-// The order of two whole numbers, and of two patterns of one float kind. RULES.md: Comparison.
-// Patterns that are no NaN order as their bits past the sign do when these are read with the sign: no scaled number is ever formed.
+// The order of two whole numbers, and of two patterns of one format. RULES.md: Comparison.
+// Patterns that are no NaN order as their positions do, but for the two zeros, which are equal: no scaled number is ever formed.
 ghost use Rattle.std.specs.Prelude.{◌≡◌};
-ghost use Rattle.float.specs.Format.{f16, f32, f64, abs_in, negative_in};
-ghost use Rattle.float.specs.Number.{signed_of};
-ghost use Rattle.float.specs.Order.{order_n, order_z, compare_in};
+ghost use Rattle.float.specs.Format.{zero_in};
+ghost use Rattle.float.specs.Order.{order_z, compare_in};
 
-use crate::Order;
-use crate::bits::{abs_f16, abs_f32, abs_f64};
+use crate::bits::{abs, is_nan};
+use crate::positions::position;
+use crate::{Integer, Order, Pattern};
 
-pub fn order_u64(m: u64, n: u64) -> Order
-    ensures { result ≡ order_n m n }
+pub fn order_integers<T: Integer>(m: T, n: T) -> Order
+    ensures { result ≡ order_z (T.integer m) (T.integer n) }
 {
     if m < n {
         Order::Less
@@ -20,75 +20,21 @@ pub fn order_u64(m: u64, n: u64) -> Order
     }
 }
 
-pub fn order_i64(m: i64, n: i64) -> Order
-    ensures { result ≡ order_z m n }
+fn is_zero<P: Pattern>(bits: P) -> bool
+    ensures { result ≡ zero_in P.format (P.whole bits) }
 {
-    if m < n {
-        Order::Less
-    } else if n < m {
-        Order::Greater
-    } else {
+    abs(bits) == P::ZERO
+}
+
+#[tactic(auto, using(crate::proofs::Comparing::compare_nan, crate::proofs::Comparing::compare_zeros, crate::proofs::Comparing::compare_placed))]
+pub fn compare<P: Pattern>(a: P, b: P) -> Order
+    ensures { result ≡ compare_in P.format (P.whole a) (P.whole b) }
+{
+    if is_nan(a) | is_nan(b) {
+        Order::Unordered
+    } else if is_zero(a) & is_zero(b) {
         Order::Equal
+    } else {
+        order_integers(position(a), position(b))
     }
-}
-
-// abs with the sign: both zeros are 0.
-fn signed_f16(bits: u16) -> i64
-    ensures { result ≡ signed_of (negative_in f16 bits) (abs_in f16 bits) }
-{
-    let x = abs_f16(bits) as i64;
-    if bits < 0x8000 { x } else { -x }
-}
-
-fn signed_f32(bits: u32) -> i64
-    ensures { result ≡ signed_of (negative_in f32 bits) (abs_in f32 bits) }
-{
-    let x = abs_f32(bits) as i64;
-    if bits < 0x8000_0000 { x } else { -x }
-}
-
-fn signed_f64(bits: u64) -> i64
-    ensures { result ≡ signed_of (negative_in f64 bits) (abs_in f64 bits) }
-{
-    let x = abs_f64(bits) as i64;
-    if bits < 0x8000_0000_0000_0000 { x } else { -x }
-}
-
-#[tactic(auto, using(crate::proofs::Comparing::compare_nan_left, crate::proofs::Comparing::compare_nan_right))]
-pub fn compare_f16(a: u16, b: u16) -> Order
-    ensures { result ≡ compare_in f16 a b }
-{
-    if 0x7c00 < abs_f16(a) {
-        return Order::Unordered;
-    }
-    if 0x7c00 < abs_f16(b) {
-        return Order::Unordered;
-    }
-    order_i64(signed_f16(a), signed_f16(b))
-}
-
-#[tactic(auto, using(crate::proofs::Comparing::compare_nan_left, crate::proofs::Comparing::compare_nan_right))]
-pub fn compare_f32(a: u32, b: u32) -> Order
-    ensures { result ≡ compare_in f32 a b }
-{
-    if 0x7f80_0000 < abs_f32(a) {
-        return Order::Unordered;
-    }
-    if 0x7f80_0000 < abs_f32(b) {
-        return Order::Unordered;
-    }
-    order_i64(signed_f32(a), signed_f32(b))
-}
-
-#[tactic(auto, using(crate::proofs::Comparing::compare_nan_left, crate::proofs::Comparing::compare_nan_right))]
-pub fn compare_f64(a: u64, b: u64) -> Order
-    ensures { result ≡ compare_in f64 a b }
-{
-    if 0x7ff0_0000_0000_0000 < abs_f64(a) {
-        return Order::Unordered;
-    }
-    if 0x7ff0_0000_0000_0000 < abs_f64(b) {
-        return Order::Unordered;
-    }
-    order_i64(signed_f64(a), signed_f64(b))
 }
