@@ -2,7 +2,7 @@
 use mathlib.Core.Path.{◌≡◌, refl, sym, ◌∙◌, ap}
 use mathlib.Core.Bool.{Bool, true, false, not, ◌||◌, cond, true≢false}
 use lib.Dec.{T}
-use lib.Ieee.{Float, binary32, to_bits, is_nan, fits, lt, le}
+use lib.Ieee.{Float, binary32, to_bits, is_nan, fits, lt, le, ne}
 use Rattle.std.specs.Float.{float_clamp}
 use Rattle.float.specs.declared.Order.{Order}
 use Rattle.float.specs.declared.Order.TheVariants.{Less, Equal, Greater, Unordered}
@@ -10,6 +10,7 @@ use Rattle.float.specs.Order.{is_less, is_less_or_equal, is_greater, is_unordere
 use Rattle.float.proofs.Operators.{lt_is, le_is}
 use Rattle.float.proofs.Turned.{greater_turned, unordered_nan}
 use Rattle.value.specs.Outcome.{gives, refuses}
+use Rattle.value.proofs.FloatBits.{differs_nan, same_no_nan, is_false}
 use Rattle.choose.specs.declared.Range.{Range}
 use Rattle.choose.specs.Choose.{sample_order, range_of, sample_of}
 use Rattle.choose.specs.Inner.{clamped_by}
@@ -59,26 +60,40 @@ module _ (range : Range) (x : Float) (hl : T (fits binary32 range.lower)) (hu : 
     unordered : is_unordered (sample_order x range.lower) ≡ (is_nan x || is_nan range.lower)
     unordered = unordered_nan binary32 x range.lower hx hl
 
-    pub sample_nan : is_nan x ≡ true → refuses 8 0 ≡ sample_of range x
-    sample_nan h = clamped_nan x range.lower range.upper _ _ _ in_order
+    pub sample_is_nan : is_nan x ≡ true → refuses 8 0 ≡ sample_of range x
+    sample_is_nan h = clamped_nan x range.lower range.upper _ _ _ in_order
         (unordered ∙ ap (λ (t : Bool). t || is_nan range.lower) h) ∙ by_orders
 
-    module _ (n : is_nan x ≡ false) where
+    pub sample_nan : ne x x ≡ true → refuses 8 0 ≡ sample_of range x
+    sample_nan h = sample_is_nan (differs_nan x h)
+
+    module _ (n : ne x x ≡ false) where
       number : is_unordered (sample_order x range.lower) ≡ false
-      number = unordered ∙ cc (n, lower_number range.lower range.upper hl hu b)
+      number = unordered ∙ cc (is_false (is_nan x) (same_no_nan x n), lower_number range.lower range.upper hl hu b)
 
-      below : is_less (sample_order x range.lower) ≡ lt x range.lower
-      below = sym (lt_is binary32 x range.lower hx hl)
+      pub sample_lower : lt x range.lower ≡ true → gives range.lower ≡ sample_of range x
+      sample_lower h = clamped_lower x range.lower range.upper _ _ _ in_order number (sym (lt_is binary32 x range.lower hx hl) ∙ h) ∙ by_orders
 
-      above : is_greater (sample_order x range.upper) ≡ lt range.upper x
-      above = sym (greater_turned 23 8 (to_bits binary32 x) (to_bits binary32 range.upper)) ∙ sym (lt_is binary32 range.upper x hu hx)
+      module _ (l : lt x range.lower ≡ false) where
+        not_below : is_less (sample_order x range.lower) ≡ false
+        not_below = sym (lt_is binary32 x range.lower hx hl) ∙ l
 
-      -- the library's clamp tests the same in the same order
-      pub sample_number : gives (float_clamp x range.lower range.upper) ≡ sample_of range x
-      sample_number = by_tests (lt x range.lower) (lt range.upper x) refl refl
-        where
-          by_tests : (l h : Bool) → lt x range.lower ≡ l → lt range.upper x ≡ h
-              → gives (cond l range.lower (cond h range.upper x)) ≡ sample_of range x
-          by_tests true h p q = clamped_lower x range.lower range.upper _ _ _ in_order number (below ∙ p) ∙ by_orders
-          by_tests false true p q = clamped_upper x range.lower range.upper _ _ _ in_order number (below ∙ p) (above ∙ q) ∙ by_orders
-          by_tests false false p q = clamped_self x range.lower range.upper _ _ _ in_order number (below ∙ p) (above ∙ q) ∙ by_orders
+        above : is_greater (sample_order x range.upper) ≡ lt range.upper x
+        above = sym (greater_turned 23 8 (to_bits binary32 x) (to_bits binary32 range.upper)) ∙ sym (lt_is binary32 range.upper x hu hx)
+
+        pub sample_upper : lt range.upper x ≡ true → gives range.upper ≡ sample_of range x
+        sample_upper h = clamped_upper x range.lower range.upper _ _ _ in_order number not_below (above ∙ h) ∙ by_orders
+
+        pub sample_self : lt range.upper x ≡ false → gives x ≡ sample_of range x
+        sample_self h = clamped_self x range.lower range.upper _ _ _ in_order number not_below (above ∙ h) ∙ by_orders
+
+    -- the library's clamp tests the same in the same order
+    pub sample_number : is_nan x ≡ false → gives (float_clamp x range.lower range.upper) ≡ sample_of range x
+    sample_number h = by_tests (ne x x) (lt x range.lower) (lt range.upper x) refl refl refl
+      where
+        by_tests : (d l u : Bool) → ne x x ≡ d → lt x range.lower ≡ l → lt range.upper x ≡ u
+            → gives (cond l range.lower (cond u range.upper x)) ≡ sample_of range x
+        by_tests true l u n p q = absurd (true≢false (sym (differs_nan x n) ∙ h))
+        by_tests false true u n p q = sample_lower n p
+        by_tests false false true n p q = sample_upper n p q
+        by_tests false false false n p q = sample_self n p q
