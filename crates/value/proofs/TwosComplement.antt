@@ -10,7 +10,7 @@ use lib.Dec.{T}
 use lib.IntN.{ℤ, pos, negsuc, nat_abs, ◌-ℤ◌}
 use lib.Signed.{mag, le_z, non_neg, pos-nat_abs}
 use mir.Syntax.{Width, w64}
-use mir.Val.{Fits, SFits, hbits, to_z, of_z}
+use mir.Val.{Fits, SFits, bits, hbits, to_z, of_z}
 use mir.ValLaws.{to_z-of_z, half_full}
 use Rattle.value.specs.Meaning.{FitsSigned, twos_of, from_twos}
 use Rattle.float.proofs.Naturals.{lt_or_ge}
@@ -105,6 +105,13 @@ from_low half n h = simp (lt-ltb _ _ h)
 
 pub from_high : (half n : ℕ) {x : ℕ} → half ≤ n → x ≡ 2 * half - 1 - n → negsuc x ≡ from_twos half n
 from_high half n h q = simp (le-ltb _ _ h) (ap negsuc q)
+
+-- the machine's reading of a pattern
+pub reading : (w : Width) (n : ℕ) → 2 ^ bits w ≡ 2 * 2 ^ hbits w → to_z w n ≡ from_twos (2 ^ hbits w) n
+reading w n e = elim (lt_or_ge n (2 ^ hbits w)) [
+  | inl l ↦ simp (lt-ltb _ _ l)
+  | inr g ↦ simp (le-ltb _ _ g) (ap negsuc (omega (arith, e)))
+]
 
 pub twos_from : (half n : ℕ) → n < 2 * half → twos_of (2 * half - 1) (from_twos half n) ≡ n
 twos_from half n h = elim (lt_or_ge n half) [
