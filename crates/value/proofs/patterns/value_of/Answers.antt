@@ -3,9 +3,7 @@ use mathlib.Core.Path.{◌≡◌, refl, sym, ◌∙◌, ap}
 use Prim.Native.Nat.{ℕ, ◌%◌, ◌^◌, ◌<◌}
 use native.Mathlib.Nat.{mod-eq_of_lt}
 use borrow.Author.Rules.{rules}
-use lib.Dec.{lit≤}
 use mir.Syntax.{w8, w16, w32, w64}
-use mir.Val.{SFits}
 use mir.ValLaws.{to_z-of_z}
 use Rattle.value.specs.declared.Kind.{Kind}
 use Rattle.value.specs.declared.Value.TheVariants.{U64, I8, I16, I32, I64}
