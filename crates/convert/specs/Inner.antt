@@ -1,6 +1,6 @@
 -- Nothing in this file has to be believed: it says what private functions compute, and no public contract or theorem reaches it.
 -- A magnitude, in units of 2^-1074, is digits * 2^shift in the code: no machine number holds it as one.
-use Rattle.std.specs.Prelude.{ℕ, suc, ◌+◌, ◌-◌, ◌*◌, ◌/◌, ◌%◌, ◌^◌, ◌<◌, Bool, not, ◌&&◌, cond, eqb, ltb, Result, Err, Ok}
+use Rattle.std.specs.Prelude.{ℕ, suc, ◌+◌, ◌-◌, ◌*◌, ◌/◌, ◌%◌, ◌^◌, ◌<◌, Bool, not, ◌&&◌, cond, eqb, ltb}
 use Rattle.std.specs.Int.Signed.{mag}
 use Rattle.float.specs.Format.{f16, f32, f64, mag_of, sign_in}
 use Rattle.float.specs.Number.{Exact, not_number, infinite, finite, signed_of}

@@ -77,7 +77,7 @@ fn whole_in(x: Parts, low: u64, high: u64) -> Result<(bool, u64), Refusal>
 }
 
 // A number in a float format: its leading digits are kept, one more than the fraction has, and those below have to be 0. Field k + 1 is the exponent's.
-#[tactic(auto, using(crate::proofs::Holds::far_refused, crate::proofs::Holds::low_refused))]
+#[tactic(auto, using(crate::proofs::Holds::far_refused))]
 fn held(n: Scaled, format: FloatFormat) -> Result<(bool, u64), Refusal>
     ensures { outcome_of result ≡ float_at format.fraction (2 ^ format.step) format.last n.negative (magnitude n) }
 {
@@ -86,16 +86,14 @@ fn held(n: Scaled, format: FloatFormat) -> Result<(bool, u64), Refusal>
     }
     let digits = size_of(n.digits) as u64 + n.shift as u64;
     let kept = format.fraction as u64 + 1 + format.step as u64;
-    let k = if digits > kept { digits - kept } else { 0 };
+    let k = digits.saturating_sub(kept);
     if k > format.last as u64 {
         return Err(OUT_OF_RANGE);
     }
     let ratio = over(n, k + format.step as u64);
     if ratio.rest {
-        if k == format.last as u64 {
-            if ratio.quotient == (2u64 << format.fraction) - 1 {
-                return Err(OUT_OF_RANGE);
-            }
+        if k == format.last as u64 && ratio.quotient == (2u64 << format.fraction) - 1 {
+            return Err(OUT_OF_RANGE);
         }
         return Err(NOT_HELD);
     }

@@ -1,13 +1,12 @@
 -- Two's complement: what the machine's signed operations give, and that reading undoes writing.
 use mathlib.Core.Path.{◌≡◌, refl, sym, ◌∙◌, ap, subst}
 use mathlib.Core.Logic.{inl, inr}
-use mathlib.Core.Bool.{false, true≢false}
-use Prim.Native.Nat.{ℕ, suc, ◌-◌, ◌*◌, ◌^◌, ◌≤◌, ◌<◌}
+use Prim.Native.Nat.{ℕ, ◌-◌, ◌*◌, ◌^◌, ◌≤◌, ◌<◌}
 use native.Mathlib.Nat.{lt_of_lt_of_le}
 use native.Mathlib.Omega.{arith}
-use borrow.Author.Tests.{lt-ltb, le-ltb, le-leb}
-use lib.IntN.{ℤ, pos, negsuc, ◌-ℤ◌}
-use lib.Signed.{mag, le_z}
+use borrow.Author.Tests.{lt-ltb, le-ltb}
+use lib.IntN.{ℤ, pos, negsuc}
+use lib.Signed.{mag}
 use mir.Syntax.{Width}
 use mir.Val.{SFits, bits, hbits, to_z, of_z}
 use mir.ValLaws.{to_z-of_z}
@@ -23,32 +22,6 @@ fits_below half (negsuc n) h = h
 pub below_fits : (half : ℕ) (z : ℤ) → mag z < half → FitsSigned half z
 below_fits half (pos n) h = h
 below_fits half (negsuc n) h = h
-
--- ---- the machine's reading of a signed number z, where it tests 0 <= z
-
-complement : (n : ℕ) → negsuc 0 -ℤ negsuc n ≡ pos n
-complement n = let q : suc n - 1 ≡ n = omega arith in simp (le-ltb (suc n) 1 (omega arith), q)
-
-negative : (z : ℤ) → le_z (pos 0) z ≡ false → negsuc (mag z) ≡ z
-negative (pos n) h = absurd (true≢false (sym (le-leb 0 n (omega arith)) ∙ h))
-negative (negsuc n) h = refl
-
-module _ {w : Width} (z : ℤ) (f : SFits w z) where
-  read : to_z w (of_z w z) ≡ z
-  read = to_z-of_z w z f
-
-  module _ (h : le_z (pos 0) (to_z w (of_z w z)) ≡ false) where
-    negative_self : negsuc (mag z) ≡ z
-    negative_self = negative z (rw read at h)
-
-    turned : negsuc 0 -ℤ to_z w (of_z w z) ≡ pos (mag z)
-    turned = rw read (ap (λ (y : ℤ). negsuc 0 -ℤ y) (sym negative_self) ∙ complement (mag z))
-
-    negative_fits : SFits w (negsuc 0 -ℤ to_z w (of_z w z))
-    negative_fits = rw turned (record { sfits = f.sfits })
-
-    pub twice : to_z w (of_z w (negsuc 0 -ℤ to_z w (of_z w z))) ≡ pos (mag z)
-    twice = to_z-of_z w _ negative_fits ∙ turned
 
 -- ---- a signed number that two widths hold, cast from one to the other
 

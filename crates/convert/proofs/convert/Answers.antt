@@ -2,7 +2,7 @@
 use mathlib.Core.Path.{◌≡◌, sym, ◌∙◌, ap}
 use borrow.Author.Rules.{rules}
 use denote.Enum.Bare.{same_true, same_false}
-use Rattle.value.specs.Kinds.{kind_of, kind_number}
+use Rattle.value.specs.Kinds.{kind_number}
 use Rattle.value.specs.declared.Kind.{Kind}
 use Rattle.value.specs.declared.Kind.TheVariants as kind
 use Rattle.value.specs.contracts.Kind.{the_type}

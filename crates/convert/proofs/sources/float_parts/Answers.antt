@@ -1,6 +1,6 @@
 -- By abs: a NaN, an infinity, a number without an exponent field or with one.
-use mathlib.Core.Path.{◌≡◌, ◌∙◌, sym}
-use Prim.Native.Nat.{ℕ, ◌*◌, ◌/◌, ◌+◌, ◌^◌, ◌≤◌}
+use mathlib.Core.Path.{◌≡◌}
+use Prim.Native.Nat.{ℕ, ◌*◌, ◌+◌, ◌^◌, ◌≤◌}
 use Rattle.convert.proofs.Taken.{taken_low, taken_high}
 use Rattle.convert.proofs.sources.float_parts.Goals as goal
 use Rattle.convert.proofs.sources.float_parts.Goals.{After-hidden-hidden}

@@ -1,12 +1,9 @@
 -- Each arm is a case of `float_in`.
-use mathlib.Core.Path.{◌≡◌, sym, ◌∙◌, ap}
-use Prim.Native.Nat.{ℕ, ◌+◌, ◌*◌, ◌%◌, ◌^◌}
-use native.Mathlib.Nat.{mod-eq_of_lt}
-use native.Mathlib.Omega.{arith}
+use mathlib.Core.Path.{sym, ◌∙◌, ap}
+use Prim.Native.Nat.{ℕ, ◌^◌}
 use Rattle.value.specs.Outcome.{gives}
 use Rattle.convert.specs.declared.Parts.{Parts}
 use Rattle.convert.specs.Inner.{meaning, float_in}
-use Rattle.convert.proofs.Holds.{field_small}
 use Rattle.convert.proofs.targets.float_in.Goals as goal
 
 pub returns-in-NotANumber : goal.returns-in-NotANumber
