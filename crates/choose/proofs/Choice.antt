@@ -1,5 +1,4 @@
 -- Choosing and clamping by the orders that were compared.
-use Rattle.std.specs.Prelude.{Result, Err, Ok}
 use mathlib.Core.Path.{◌≡◌, refl, sym, ◌∙◌, ap}
 use mathlib.Core.Bool.{Bool, true, false, not, true≢false}
 use borrow.Author.Tests.{eq-eqb}
@@ -8,36 +7,42 @@ use Rattle.float.specs.Order.{is_less, is_less_or_equal, is_greater, is_unordere
 use Rattle.float.proofs.Tests.{clash}
 use Rattle.value.specs.declared.Value.{Value}
 use Rattle.value.specs.declared.Refusal.{Refusal}
-use Rattle.value.specs.Outcome.{Outcome, gives, refuses, refuse_if, refusal_of, and_then, outcome_of}
+use Rattle.value.specs.Outcome.{Outcome, gives, refuses, refuse_if, refusal_of, and_then, mapped}
 use Rattle.value.specs.Rules.{chain}
 use Rattle.value.proofs.Rules.{chain_then}
-use Rattle.cmp.specs.Compare.{kinds_differ, value_rules, value_order, compare_of}
+use Rattle.value.proofs.Outcomes.{mapped_gives, refuses_same}
+use Rattle.cmp.specs.Compare.{kinds_differ, value_rules, value_order, compare_of, le_of}
 use Rattle.cmp.proofs.KindTests.{one_kind}
 use Rattle.cmp.specs.Inner.{chosen_by}
 use Rattle.choose.specs.Choose.{min_of, max_of, clamp_of}
 use Rattle.choose.specs.Inner.{clamped_by}
 
--- ---- after a comparison
-
-module _ {B : Type 0} {c : Result Order Refusal} where
-  pub then_order : (next : Order → Outcome B) {o : Order} {r : Outcome B} → c ≡ Ok o → r ≡ next o → r ≡ and_then (outcome_of c) next
-  then_order next q h = h ∙ sym (ap (λ (d : Result Order Refusal). and_then (outcome_of d) next) q)
-
-  pub then_refusal : (next : Order → Outcome B) {f : Refusal} → c ≡ Err f → refusal_of f ≡ and_then (outcome_of c) next
-  then_refusal next q = sym (ap (λ (d : Result Order Refusal). and_then (outcome_of d) next) q)
+-- ---- the choice
 
 -- a comparison, and then what follows, is rule 7 and then what follows
 compare_then : {B : Type 0} (next : Order → Outcome B) (a b : Value) → and_then (compare_of a b) next ≡ chain (value_rules a b) (next (value_order a b))
 unfolding compare_of
 compare_then next a b = chain_then next (value_rules a b) (gives (value_order a b))
 
-pub min_chosen : (a b : Value) → and_then (compare_of a b) (chosen_by 0 a b) ≡ min_of a b
-unfolding min_of chosen_by
-min_chosen a b = compare_then (chosen_by 0 a b) a b
+-- of an order that was compared
+module _ (a b : Value) {o : Order} (h : gives o ≡ compare_of a b) where
+  pub min_chosen : chosen_by 0 a b o ≡ min_of a b
+  unfolding min_of chosen_by
+  min_chosen = ap (λ c. and_then c (chosen_by 0 a b)) h ∙ compare_then (chosen_by 0 a b) a b
 
-pub max_chosen : (a b : Value) → and_then (compare_of a b) (chosen_by 0 b a) ≡ max_of a b
-unfolding max_of chosen_by
-max_chosen a b = compare_then (chosen_by 0 b a) a b
+  pub max_chosen : chosen_by 0 b a o ≡ max_of a b
+  unfolding max_of chosen_by
+  max_chosen = ap (λ c. and_then c (chosen_by 0 b a)) h ∙ compare_then (chosen_by 0 b a) a b
+
+-- of a refusal
+module _ (a b : Value) (f : Refusal) (h : refusal_of f ≡ compare_of a b) where
+  pub min_refused : refusal_of f ≡ min_of a b
+  unfolding min_of chosen_by
+  min_refused = ap (λ c. and_then c (chosen_by 0 a b)) h ∙ compare_then (chosen_by 0 a b) a b
+
+  pub max_refused : refusal_of f ≡ max_of a b
+  unfolding max_of chosen_by
+  max_refused = ap (λ c. and_then c (chosen_by 0 b a)) h ∙ compare_then (chosen_by 0 b a) a b
 
 -- ---- the clamp
 
@@ -83,6 +88,11 @@ refused_kinds a b f h = go (kinds_differ a b) refl h
     go true e q = (e, cc, cc)
     go false e q = clash cc
 
+-- a test refuses as the comparison does
+refused_test : (test : Order → Bool) (c : Outcome Order) (f : Refusal) → refusal_of f ≡ mapped test c → refusal_of f ≡ c
+refused_test test (gives o) f h = clash cc
+refused_test test (refuses number place) f h = let q = refuses_same h in cc
+
 same_kinds : (v a b : Value) → kinds_differ v a ≡ false → kinds_differ v b ≡ false → kinds_differ a b ≡ false
 same_kinds v a b h k = ap not (eq-eqb _ _ (sym (one_kind v a h) ∙ one_kind v b k))
 
@@ -97,14 +107,16 @@ module _ (v lower upper : Value) where
     clamp_refused_upper f h = let k = refused_kinds v upper f h in simp ((given_kinds v lower l).0, k.0, k.1, k.2)
 
     module _ {high : Order} (u : gives high ≡ compare_of v upper) where
-      pub clamp_never : (f : Refusal) → refusal_of f ≡ compare_of lower upper → refusal_of f ≡ clamp_of v lower upper
-      clamp_never f h = absurd
-          (true≢false (sym (refused_kinds lower upper f h).0 ∙ same_kinds v lower upper (given_kinds v lower l).0 (given_kinds v upper u).0))
+      pub clamp_never : (f : Refusal) → refusal_of f ≡ le_of lower upper → refusal_of f ≡ clamp_of v lower upper
+      clamp_never f h = absurd (true≢false (sym (refused_kinds lower upper f (refused_test is_less_or_equal (compare_of lower upper) f h)).0
+          ∙ same_kinds v lower upper (given_kinds v lower l).0 (given_kinds v upper u).0))
 
-      pub clamp_clamped : {bounds : Order} {r : Outcome Value} → gives bounds ≡ compare_of lower upper
-          → r ≡ clamped_by bounds low high v lower upper → r ≡ clamp_of v lower upper
+      -- whether the bounds are in order is a test of the order that they have
+      pub clamp_clamped : {t : Bool} {r : Outcome Value} → gives t ≡ le_of lower upper
+          → ((bounds : Order) → is_less_or_equal bounds ≡ t → r ≡ clamped_by bounds low high v lower upper) → r ≡ clamp_of v lower upper
       unfolding clamp_of clamped_by
       clamp_clamped w h =
           let p = given_kinds v lower l in
           let q = given_kinds v upper u in
-          simp (p.0, q.0) (h ∙ cc (p.1, q.1, (given_kinds lower upper w).1))
+          let g = mapped_gives is_less_or_equal (compare_of lower upper) (sym w) in
+          simp (p.0, q.0) (h g.0 g.2 ∙ cc (p.1, q.1, (given_kinds lower upper (sym g.1)).1))

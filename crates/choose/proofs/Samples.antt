@@ -1,8 +1,9 @@
 -- Ranges and samples by the language's own comparison of floats.
 use mathlib.Core.Path.{◌≡◌, refl, sym, ◌∙◌, ap}
-use mathlib.Core.Bool.{Bool, true, false, not, ◌||◌, true≢false}
+use mathlib.Core.Bool.{Bool, true, false, not, ◌||◌, cond, true≢false}
 use lib.Dec.{T}
 use lib.Ieee.{Float, binary32, to_bits, is_nan, fits, lt, le, ne}
+use Rattle.std.specs.Float.{float_clamp}
 use Rattle.float.specs.declared.Order.{Order}
 use Rattle.float.specs.declared.Order.TheVariants.{Less, Equal, Greater, Unordered}
 use Rattle.float.specs.Order.{is_less, is_less_or_equal, is_greater, is_unordered}
@@ -59,9 +60,12 @@ module _ (range : Range) (x : Float) (hl : T (fits binary32 range.lower)) (hu : 
     unordered : is_unordered (sample_order x range.lower) ≡ (is_nan x || is_nan range.lower)
     unordered = unordered_nan binary32 x range.lower hx hl
 
+    pub sample_is_nan : is_nan x ≡ true → refuses 8 0 ≡ sample_of range x
+    sample_is_nan h = clamped_nan x range.lower range.upper _ _ _ in_order
+        (unordered ∙ ap (λ (t : Bool). t || is_nan range.lower) h) ∙ by_orders
+
     pub sample_nan : ne x x ≡ true → refuses 8 0 ≡ sample_of range x
-    sample_nan h = clamped_nan x range.lower range.upper _ _ _ in_order
-        (unordered ∙ ap (λ (t : Bool). t || is_nan range.lower) (differs_nan x h)) ∙ by_orders
+    sample_nan h = sample_is_nan (differs_nan x h)
 
     module _ (n : ne x x ≡ false) where
       number : is_unordered (sample_order x range.lower) ≡ false
@@ -82,3 +86,14 @@ module _ (range : Range) (x : Float) (hl : T (fits binary32 range.lower)) (hu : 
 
         pub sample_self : lt range.upper x ≡ false → gives x ≡ sample_of range x
         sample_self h = clamped_self x range.lower range.upper _ _ _ in_order number not_below (above ∙ h) ∙ by_orders
+
+    -- the library's clamp tests the same in the same order
+    pub sample_number : is_nan x ≡ false → gives (float_clamp x range.lower range.upper) ≡ sample_of range x
+    sample_number h = by_tests (ne x x) (lt x range.lower) (lt range.upper x) refl refl refl
+      where
+        by_tests : (d l u : Bool) → ne x x ≡ d → lt x range.lower ≡ l → lt range.upper x ≡ u
+            → gives (cond l range.lower (cond u range.upper x)) ≡ sample_of range x
+        by_tests true l u n p q = absurd (true≢false (sym (differs_nan x n) ∙ h))
+        by_tests false true u n p q = sample_lower n p
+        by_tests false false true n p q = sample_upper n p q
+        by_tests false false false n p q = sample_self n p q

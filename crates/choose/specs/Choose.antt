@@ -1,13 +1,12 @@
 -- Choosing between two values, and clamping one value or one sample. RULES.md: Choosing and clamping, Refusals.
-use Rattle.value.specs.declared.Refusal.{Refusal}
-use Rattle.std.specs.Prelude.{not, ◌||◌, cond, List, [], ◌∷◌, Float, Result, Err, Ok}
+use Rattle.std.specs.Prelude.{not, ◌||◌, cond, List, [], ◌∷◌, Float}
 use Rattle.std.specs.Float.{binary32}
 use Rattle.std.specs.Float.Ieee.{to_bits, of_bits}
 use Rattle.float.specs.declared.Order.{Order}
 use Rattle.float.specs.Format.{f32}
 use Rattle.float.specs.Order.{compare_in, is_less, is_less_or_equal, is_greater}
 use Rattle.value.specs.declared.Value.{Value}
-use Rattle.value.specs.Outcome.{Outcome, gives, refusal_of}
+use Rattle.value.specs.Outcome.{Outcome, gives}
 use Rattle.value.specs.Rules.{Rule, rule, chain}
 use Rattle.cmp.specs.Compare.{kinds_differ, value_order}
 use Rattle.cmp.specs.ByOrder.{unordered, other_if_greater}

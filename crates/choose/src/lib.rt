@@ -13,3 +13,14 @@ pub struct Range {
     pub lower: f32,
     pub upper: f32,
 }
+
+// The rules that refuse a range, and a choice or a clamp.
+const BAD_BOUNDS: Refusal = Refusal {
+    number: 6,
+    place: 0,
+};
+
+const UNORDERED: Refusal = Refusal {
+    number: 8,
+    place: 0,
+};

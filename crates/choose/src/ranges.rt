@@ -4,12 +4,14 @@ ghost use Rattle.value.specs.Outcome.{outcome_of};
 ghost use Rattle.std.specs.Prelude.{◌≡◌};
 ghost use Rattle.choose.specs.Choose.{default_range, range_of, sample_of};
 
-use crate::Range;
+use crate::{BAD_BOUNDS, Range, UNORDERED};
 use value::Refusal;
 
-impl Range {
-    // What 16-bit greys span.
-    pub fn default() -> Range
+// What 16-bit greys span.
+impl Default for Range {
+    ghost is_default = { λ range. range ≡ default_range };
+
+    fn default() -> Range
         ensures { result ≡ default_range }
     {
         Range {
@@ -17,17 +19,16 @@ impl Range {
             upper: 65535.0,
         }
     }
+}
 
+impl Range {
     pub fn new(lower: f32, upper: f32) -> Result<Range, Refusal>
         ensures { outcome_of result ≡ range_of lower upper }
     {
         if lower <= upper {
             Ok(Range { lower, upper })
         } else {
-            Err(Refusal {
-                number: 6,
-                place: 0,
-            })
+            Err(BAD_BOUNDS)
         }
     }
 
@@ -46,26 +47,14 @@ impl Range {
     pub fn clamp(self, x: f32) -> Result<f32, Refusal>
         ensures { outcome_of result ≡ sample_of self x }
     {
-        let low = self.lower;
-        let high = self.upper;
-        if low <= high {
-            if x != x {
-                Err(Refusal {
-                    number: 8,
-                    place: 0,
-                })
-            } else if x < low {
-                Ok(low)
-            } else if high < x {
-                Ok(high)
+        if self.lower <= self.upper {
+            if x.is_nan() {
+                Err(UNORDERED)
             } else {
-                Ok(x)
+                Ok(x.clamp(self.lower, self.upper))
             }
         } else {
-            Err(Refusal {
-                number: 6,
-                place: 0,
-            })
+            Err(BAD_BOUNDS)
         }
     }
 }

@@ -1,5 +1,4 @@
 -- What each arm of a match on two values answers.
-use Rattle.std.specs.Prelude.{Result, Err, Ok}
 use mathlib.Core.Path.{◌≡◌, refl, sym, ◌∙◌, ap, subst}
 use mathlib.Core.Bool.{Bool, true, false}
 use Prim.Native.Nat.{ℕ}
@@ -7,17 +6,16 @@ use lib.Dec.{T}
 use lib.IntN.{ℤ}
 use Rattle.float.specs.declared.Order.{Order}
 use Rattle.float.specs.Format.{Format}
-use Rattle.float.specs.Order.{order_z, order_of, answer, compare_in, pattern_in}
+use Rattle.float.specs.Order.{order_z, order_of, compare_in, pattern_in}
 use Rattle.float.specs.Number.{times}
 use Rattle.value.specs.declared.Kind.{Kind}
 use Rattle.value.specs.declared.Kind.TheVariants as kind
 use Rattle.value.specs.declared.Value.{Value}
 use Rattle.value.specs.Kinds.{kind_of, form_of, is_integer}
 use Rattle.value.specs.Meaning.{whole_of, number_of, position_of, exact_of, unit, step_of}
-use Rattle.value.specs.Outcome.{gives, refuses, refuse_if, refusal_of, mapped, outcome_of}
+use Rattle.value.specs.Outcome.{gives, refuses, refuse_if}
 use Rattle.value.proofs.Forms.{Whole}
 use Rattle.value.proofs.KindNumbers.{number_injective}
-use Rattle.value.specs.declared.Refusal.{Refusal}
 use Rattle.cmp.specs.Compare.{kinds_differ, compare_of, total_of}
 use Rattle.cmp.proofs.KindTests.{NotOf, whole_left, differ, alike, one_kind}
 use Rattle.cmp.proofs.Numbers.{integers_order, patterns_order, positions_order}
@@ -32,6 +30,9 @@ module _ {a a' : Value} (b : Value) (q : a ≡ a') (n : NotOf (kind_of a') b) wh
   pub total_refused : refuses 7 0 ≡ total_of a b
   unfolding total_of
   total_refused = simp (differ b q n)
+
+  pub both_refused : compare_of a b ≡ total_of a b
+  both_refused = sym compare_refused ∙ total_refused
 
 -- ---- an arm that knows both cases
 
@@ -73,13 +74,3 @@ integers_agree a b h = same_answer a b (kinds_differ a b) refl h
 
 pub total_integers : (a b : Value) → NotOf kind.F32 a → NotOf kind.F64 a → NotOf kind.F16 a → compare_of a b ≡ total_of a b
 total_integers a b f g h = integers_agree a b (whole_left a f g h)
-
--- ---- a test of what was compared
-
-module _ (less equal greater unordered : Bool) {c : Result Order Refusal} where
-  pub tested_order : {o p : Order} → c ≡ Ok o → o ≡ p
-      → gives (answer less equal greater unordered p) ≡ mapped (answer less equal greater unordered) (outcome_of c)
-  tested_order q u = sym (cc (q, u))
-
-  pub tested_refusal : {f : Refusal} → c ≡ Err f → refusal_of f ≡ mapped (answer less equal greater unordered) (outcome_of c)
-  tested_refusal q = sym (ap (λ (d : Result Order Refusal). mapped (answer less equal greater unordered) (outcome_of d)) q)

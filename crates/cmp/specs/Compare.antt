@@ -1,12 +1,11 @@
 -- Comparison of two values, its six tests, and the total order. RULES.md: Comparison, Total order, Refusals.
-use Rattle.value.specs.declared.Refusal.{Refusal}
-use Rattle.std.specs.Prelude.{Bool, not, List, [], ◌∷◌, eqb, Result, Err, Ok}
+use Rattle.std.specs.Prelude.{Bool, not, List, [], ◌∷◌, eqb}
 use Rattle.float.specs.declared.Order.{Order}
 use Rattle.float.specs.Order.{order_of, order_z, is_equal, is_not_equal, is_less, is_less_or_equal, is_greater, is_greater_or_equal}
 use Rattle.value.specs.declared.Value.{Value}
 use Rattle.value.specs.Kinds.{kind_of, kind_number}
 use Rattle.value.specs.Meaning.{number_of, position_of}
-use Rattle.value.specs.Outcome.{Outcome, gives, refusal_of, mapped}
+use Rattle.value.specs.Outcome.{Outcome, gives, mapped}
 use Rattle.value.specs.Rules.{Rule, rule, chain}
 
 -- rule 7 of two values

@@ -166,7 +166,7 @@ held_zero p c last s m g h =
 pub dropped_is : (p c m g z k : ℕ) → 0 < m → z ≡ size m → k ≡ z + g - (p + 1 + c) → k ≡ size (m * 2 ^ g) - suc p - c
 dropped_is p c m g z k h e q = let w : size (m * 2 ^ g) ≡ size m + g = size_scale m g h in omega arith
 
--- the two refusals that the exponent alone decides, of what the code has: z digits in m, k dropped of the product's; `held` names both
+-- the two refusals that the exponent alone decides, of what the code has: z digits in m, k dropped of the product's
 pub far_refused : (p c last : ℕ) (s : Bool) (m g z k : ℕ) → last < k → z ≡ size m → (m ≡ 0 → ⊥) → k ≡ z + g - (p + 1 + c)
     → refuses 4 0 ≡ float_at p (2 ^ c) last s (m * 2 ^ g)
 far_refused p c last s m g z k h e n q = held_far p c (m * 2 ^ g) k (dropped_is p c m g z k (omega arith) e q) last s h

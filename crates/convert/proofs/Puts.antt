@@ -16,7 +16,7 @@ use Rattle.value.specs.declared.Value.{Value}
 use Rattle.value.specs.Kinds.{Form, unsigned, signed, floating, form_of}
 use Rattle.value.specs.Meaning.{unit, step_of}
 use Rattle.value.specs.declared.Refusal.{Refusal}
-use Rattle.value.specs.Outcome.{Outcome, gives, refuses, refuse_if, refusal_of, outcome_of, mapped}
+use Rattle.value.specs.Outcome.{Outcome, gives, refuse_if, refusal_of, outcome_of, mapped}
 use Rattle.value.specs.Rules.{chain}
 use Rattle.value.proofs.Rules.{chain_mapped}
 use Rattle.convert.specs.Convert.{encode_of, held_in, is_minus_zero, has_fraction, outside, into_rules, sign_for, magnitude_for, abs_for, made_in}

@@ -1,51 +1,15 @@
 -- A value taken apart: the parts mean what the value stands for.
 use mathlib.Core.Path.{◌≡◌, refl, sym, ◌∙◌, ap}
-use mathlib.Core.Bool.{Bool, true, false, true≢false}
+use mathlib.Core.Bool.{Bool}
 use Prim.Native.Nat.{ℕ, suc, ◌+◌, ◌-◌, ◌*◌, ◌/◌, ◌%◌, ◌^◌, ◌≤◌, ◌<◌}
-use native.Mathlib.Nat.{mul_assoc, div-lt_iff_lt-mul, lt_of_lt_of_le, mod-eq_of_lt, one-mul}
+use native.Mathlib.Nat.{mul_assoc, div-lt_iff_lt-mul, lt_of_lt_of_le}
 use native.Mathlib.Omega.{arith}
-use borrow.Author.Tests.{lt-ltb, le-ltb, le-leb, eq-eqb, ne_eqb}
-use lib.IntN.{ℤ, pos, negsuc, nat_abs, ◌-ℤ◌}
-use lib.Pow.{pow_pos, pow-add, pow-lt}
-use lib.Signed.{mag, le_z}
-use mir.Syntax.{w64}
-use mir.Val.{SFits, to_z, of_z}
-use mir.ValLaws.{to_z-of_z}
+use borrow.Author.Tests.{lt-ltb, le-ltb, eq-eqb, ne_eqb}
+use lib.Pow.{pow_pos, pow-add}
 use Rattle.float.specs.Format.{Format, fraction_of, mag_at, mag_of, abs_in, inf_in, negative_in}
 use Rattle.float.specs.Number.{not_number, infinite, finite, times}
 use Rattle.float.specs.Order.{pattern_of, pattern_in}
-use Rattle.value.specs.Meaning.{whole_of}
-use Rattle.value.proofs.TwosComplement.{twice}
 use Rattle.convert.specs.Inner.{pattern_at}
-
--- ---- a signed number
-
-natural : (u : ℕ) (z : ℤ) → le_z (pos 0) z ≡ true → finite false (nat_abs z * u) ≡ times u (whole_of z)
-natural u (pos n) h = refl
-natural u (negsuc n) h = absurd (true≢false (sym h))
-
-negative : (u : ℕ) (z : ℤ) → le_z (pos 0) z ≡ false → finite true ((mag z + 1) * u) ≡ times u (whole_of z)
-negative u (pos n) h = absurd (true≢false (sym (le-leb 0 n (omega arith)) ∙ h))
-negative u (negsuc n) h = ap (λ (k : ℕ). finite true (k * u)) (omega arith)
-
-module _ (z : ℤ) (f : SFits w64 z) where
-  pub taken_natural : (u : ℕ) → le_z (pos 0) (to_z w64 (of_z w64 z)) ≡ true → finite false (nat_abs (to_z w64 (of_z w64 z)) * u) ≡ times u (whole_of z)
-  taken_natural u h = rw (to_z-of_z w64 z f) (natural u z (rw (to_z-of_z w64 z f) at h))
-
-  module _ (h : le_z (pos 0) (to_z w64 (of_z w64 z)) ≡ false) where
-    abs_is : nat_abs (to_z w64 (of_z w64 (negsuc 0 -ℤ to_z w64 (of_z w64 z)))) ≡ mag z
-    abs_is = ap nat_abs (twice z f h)
-
-    pub negative_room : nat_abs (to_z w64 (of_z w64 (negsuc 0 -ℤ to_z w64 (of_z w64 z)))) < 2 ^ 63
-    negative_room = rw abs_is f.sfits
-
-    pub taken_negative : (u : ℕ) → finite true ((nat_abs (to_z w64 (of_z w64 (negsuc 0 -ℤ to_z w64 (of_z w64 z)))) + 1) * u) ≡ times u (whole_of z)
-    taken_negative u = rw abs_is (negative u z (rw (to_z-of_z w64 z f) at h))
-
--- ---- the weight of the exponent field
-
-pub hidden_is : (p : ℕ) → p ≤ 52 → 1 * 2 ^ p % 2 ^ 64 ≡ 2 ^ p
-hidden_is p h = rw (one-mul (2 ^ p)) (mod-eq_of_lt (pow-lt {i = p} {j = 64} (omega arith)))
 
 -- ---- the parts of a pattern
 

@@ -1,6 +1,5 @@
 -- Exact conversion, all ordered pairs of kinds: six rules in their order, and the value that has the number. RULES.md: Exact conversion.
-use Rattle.value.specs.declared.Refusal.{Refusal}
-use Rattle.std.specs.Prelude.{ℕ, suc, ◌+◌, ◌-◌, ◌*◌, ◌/◌, ◌%◌, ◌^◌, Bool, true, false, not, ◌&&◌, cond, List, [], ◌∷◌, eqb, ltb, ℤ, Result, Err, Ok}
+use Rattle.std.specs.Prelude.{ℕ, suc, ◌+◌, ◌-◌, ◌*◌, ◌/◌, ◌%◌, ◌^◌, Bool, true, false, not, ◌&&◌, cond, List, [], ◌∷◌, eqb, ltb, ℤ}
 use Rattle.std.specs.Float.Ieee.{size}
 use Rattle.float.specs.Format.{Format, f16, f32, f64, fraction_of, sign_in, inf_in, mag_in}
 use Rattle.float.specs.ClassMeaning.{largest_in}
@@ -11,7 +10,7 @@ use Rattle.value.specs.declared.Value.{Value}
 use Rattle.value.specs.declared.Value.TheVariants.{U8, U16, U32, U64, I8, I16, I32, I64, F16}
 use Rattle.value.specs.Kinds.{Form, unsigned, signed, floating, form_of, is_integer, kind_of, kind_number}
 use Rattle.value.specs.Meaning.{exact_of, unit, step_of, f32_value, f64_value}
-use Rattle.value.specs.Outcome.{Outcome, gives, refusal_of}
+use Rattle.value.specs.Outcome.{Outcome, gives}
 use Rattle.value.specs.Rules.{Rule, rule, chain}
 
 -- ---- a magnitude in a float format, in units of 2^-1074

@@ -1,6 +1,6 @@
 -- Nothing in this file has to be believed: it says what private functions compute, and no public contract or theorem reaches it.
--- A magnitude, in units of 2^-1074, is m * 2^g in the code: no machine number holds it as one.
-use Rattle.std.specs.Prelude.{ℕ, suc, ◌+◌, ◌-◌, ◌*◌, ◌/◌, ◌%◌, ◌^◌, ◌<◌, Bool, not, ◌&&◌, cond, eqb, ltb, Result, Err, Ok}
+-- A magnitude, in units of 2^-1074, is digits * 2^shift in the code: no machine number holds it as one.
+use Rattle.std.specs.Prelude.{ℕ, suc, ◌+◌, ◌-◌, ◌*◌, ◌/◌, ◌%◌, ◌^◌, ◌<◌, Bool, not, ◌&&◌, cond, eqb, ltb}
 use Rattle.std.specs.Int.Signed.{mag}
 use Rattle.float.specs.Format.{f16, f32, f64, mag_of, sign_in}
 use Rattle.float.specs.Number.{Exact, not_number, infinite, finite, signed_of}
@@ -12,15 +12,20 @@ use Rattle.value.specs.Meaning.{unit, f32_value, f64_value}
 use Rattle.value.specs.Outcome.{Outcome, gives, refuses, refuse_if}
 use Rattle.convert.specs.Convert.{encode_at, outside, with_sign, into_rules, made_in}
 use Rattle.convert.specs.declared.Parts.{Parts}
+use Rattle.convert.specs.declared.Scaled.{Scaled}
 use Rattle.value.specs.Rules.{chain}
 use Rattle.value.specs.declared.Kind.TheVariants as kind
 use Rattle.convert.specs.declared.Parts.TheVariants as parts
+
+-- the magnitude of a number
+abbrev pub magnitude : Scaled → ℕ
+magnitude n = n.digits * 2 ^ n.shift
 
 -- what the parts of a value mean
 abbrev pub meaning : Parts → Exact
 meaning parts.NotANumber = not_number
 meaning (parts.Infinite s) = infinite s
-meaning (parts.Finite s m g) = finite s (m * 2 ^ g)
+meaning (parts.Finite n) = finite n.negative (magnitude n)
 
 -- a pattern by its sign and its abs; i is the abs of the infinity
 abbrev pub pattern_at : ℕ → ℕ → Bool → ℕ → Exact

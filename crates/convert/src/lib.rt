@@ -4,6 +4,7 @@
 #![tactic(auto)]
 
 mod digits;
+mod formats;
 mod halves;
 mod sources;
 mod targets;
@@ -17,12 +18,20 @@ use sources::parts_of;
 use targets::put;
 use value::{Kind, Refusal, Value};
 
-// What a value stands for: no number, an infinity with its sign, or a sign and m * 2^g in units of 2^-1074.
+// A sign and digits * 2^shift, in units of 2^-1074.
+#[derive(Clone, Copy)]
+pub struct Scaled {
+    pub negative: bool,
+    pub digits: u64,
+    pub shift: u16,
+}
+
+// What a value stands for: no number, an infinity with its sign, or a number.
 #[derive(Clone, Copy)]
 pub enum Parts {
     NotANumber,
     Infinite(bool),
-    Finite(bool, u64, u16),
+    Finite(Scaled),
 }
 
 // The quotient of a division, and whether something is left.
@@ -36,14 +45,11 @@ pub struct Ratio {
 pub fn convert(v: Value, to: Kind) -> Result<Value, Refusal>
     ensures { outcome_of result ≡ convert_of v to }
 {
-    if value::kind_number(value::kind_of(v)) == value::kind_number(to) {
+    if value::kind_of(v) == to {
         return Ok(v);
     }
-    match v {
-        Value::F16(b) => match to {
-            Kind::F32 => half_to_f32(b),
-            _ => put(parts_of(v), to),
-        },
+    match (v, to) {
+        (Value::F16(b), Kind::F32) => half_to_f32(b),
         _ => put(parts_of(v), to),
     }
 }

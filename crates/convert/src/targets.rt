@@ -3,11 +3,12 @@ ghost use Rattle.std.specs.Prelude.{◌≡◌, cond, ◌+◌, ◌*◌, ◌^◌, 
 ghost use Rattle.std.specs.Int.Signed.{mag};
 ghost use Rattle.float.specs.Number.{signed_of};
 ghost use Rattle.value.specs.Outcome.{refuses, outcome_of};
-ghost use Rattle.convert.specs.Inner.{into_of, meaning, whole_at, whole_in, float_at, float_in, find_in, FitsIn, make_in};
+ghost use Rattle.convert.specs.Inner.{into_of, magnitude, meaning, whole_at, whole_in, float_at, float_in, find_in, FitsIn, make_in};
 ghost use Rattle.value.specs.Kinds.{form_of};
 
-use crate::Parts;
 use crate::digits::{over, size_of};
+use crate::formats::{F16, F32, F64, FloatFormat};
+use crate::{Parts, Scaled};
 use value::{Kind, Refusal, Value};
 
 // The rules that refuse a conversion.
@@ -41,28 +42,28 @@ const MINUS_ZERO: Refusal = Refusal {
     place: 0,
 };
 
-// A finite number, m * 2^g units, as a whole number from -low to high; minus zero is none. From 2^64 on there is no fraction left.
-fn whole(s: bool, m: u64, g: u16, low: u64, high: u64) -> Result<(bool, u64), Refusal>
-    ensures { outcome_of result ≡ whole_at low high s (m * 2 ^ g) }
+// A number as a whole number from -low to high; minus zero is none. From 2^64 on there is no fraction left.
+fn whole(n: Scaled, low: u64, high: u64) -> Result<(bool, u64), Refusal>
+    ensures { outcome_of result ≡ whole_at low high n.negative (magnitude n) }
 {
-    if m == 0 {
-        if s {
+    if n.digits == 0 {
+        if n.negative {
             return Err(MINUS_ZERO);
         }
         return Ok((false, 0));
     }
-    if size_of(m) as u64 + g as u64 > 1138 {
+    if size_of(n.digits) as u64 + n.shift as u64 > 1138 {
         return Err(OUT_OF_RANGE);
     }
-    let ratio = over(m, g as u64, 1074);
+    let ratio = over(n, 1074);
     if ratio.rest {
         return Err(FRACTION);
     }
-    let limit = if s { low } else { high };
+    let limit = if n.negative { low } else { high };
     if ratio.quotient > limit {
         return Err(OUT_OF_RANGE);
     }
-    Ok((s, ratio.quotient))
+    Ok((n.negative, ratio.quotient))
 }
 
 fn whole_in(x: Parts, low: u64, high: u64) -> Result<(bool, u64), Refusal>
@@ -71,45 +72,41 @@ fn whole_in(x: Parts, low: u64, high: u64) -> Result<(bool, u64), Refusal>
     match x {
         Parts::NotANumber => Err(NO_NUMBER),
         Parts::Infinite(_) => Err(INFINITE),
-        Parts::Finite(s, m, g) => whole(s, m, g, low, high),
+        Parts::Finite(n) => whole(n, low, high),
     }
 }
 
-// A finite number in a float format: its leading p + 1 digits are kept, and those below have to be 0. Field k + 1 is the exponent's.
-#[tactic(auto, using(crate::proofs::Holds::far_refused, crate::proofs::Holds::low_refused))]
-fn held(s: bool, m: u64, g: u16, p: u16, c: u16, last: u16) -> Result<(bool, u64), Refusal>
-    requires { (p ≤ 52) × (last ≤ 2045) }
-    ensures { outcome_of result ≡ float_at p (2 ^ c) last s (m * 2 ^ g) }
+// A number in a float format: its leading digits are kept, one more than the fraction has, and those below have to be 0. Field k + 1 is the exponent's.
+#[tactic(auto, using(crate::proofs::Holds::far_refused))]
+fn held(n: Scaled, format: FloatFormat) -> Result<(bool, u64), Refusal>
+    ensures { outcome_of result ≡ float_at format.fraction (2 ^ format.step) format.last n.negative (magnitude n) }
 {
-    if m == 0 {
-        return Ok((s, 0));
+    if n.digits == 0 {
+        return Ok((n.negative, 0));
     }
-    let digits = size_of(m) as u64 + g as u64;
-    let kept = p as u64 + 1 + c as u64;
-    let k = if digits > kept { digits - kept } else { 0 };
-    if k > last as u64 {
+    let digits = size_of(n.digits) as u64 + n.shift as u64;
+    let kept = format.fraction as u64 + 1 + format.step as u64;
+    let k = digits.saturating_sub(kept);
+    if k > format.last as u64 {
         return Err(OUT_OF_RANGE);
     }
-    let ratio = over(m, g as u64, k + c as u64);
+    let ratio = over(n, k + format.step as u64);
     if ratio.rest {
-        if k == last as u64 {
-            if ratio.quotient == (2u64 << p) - 1 {
-                return Err(OUT_OF_RANGE);
-            }
+        if k == format.last as u64 && ratio.quotient == (2u64 << format.fraction) - 1 {
+            return Err(OUT_OF_RANGE);
         }
         return Err(NOT_HELD);
     }
-    Ok((s, (k << p) + ratio.quotient))
+    Ok((n.negative, (k << format.fraction) + ratio.quotient))
 }
 
-fn float_in(x: Parts, p: u16, c: u16, last: u16) -> Result<(bool, u64), Refusal>
-    requires { (p ≤ 52) × (last ≤ 2045) }
-    ensures { outcome_of result ≡ float_in p (2 ^ c) last (meaning x) }
+fn float_in(x: Parts, format: FloatFormat) -> Result<(bool, u64), Refusal>
+    ensures { outcome_of result ≡ float_in format.fraction (2 ^ format.step) format.last (meaning x) }
 {
     match x {
         Parts::NotANumber => Err(NO_NUMBER),
-        Parts::Infinite(s) => Ok((s, (last as u64 + 2) << p)),
-        Parts::Finite(s, m, g) => held(s, m, g, p, c, last),
+        Parts::Infinite(negative) => Ok((negative, format.infinity())),
+        Parts::Finite(n) => held(n, format),
     }
 }
 
@@ -146,9 +143,9 @@ fn find(x: Parts, to: Kind) -> Result<(bool, u64), Refusal>
         Kind::I16 => whole_in(x, 0x8000, 0x7fff),
         Kind::I32 => whole_in(x, 0x8000_0000, 0x7fff_ffff),
         Kind::I64 => whole_in(x, 0x8000_0000_0000_0000, 0x7fff_ffff_ffff_ffff),
-        Kind::F32 => float_in(x, 23, 925, 253),
-        Kind::F64 => float_in(x, 52, 0, 2045),
-        Kind::F16 => float_in(x, 10, 1050, 29),
+        Kind::F32 => float_in(x, F32),
+        Kind::F64 => float_in(x, F64),
+        Kind::F16 => float_in(x, F16),
     }
 }
 

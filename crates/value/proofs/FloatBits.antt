@@ -38,6 +38,10 @@ module _ (f : Format) (x : Float) (w : ℕ) where
   unfolding float_bits
   bits_number h = simp (is_false (is_nan x) h)
 
+  pub bits_not_nan : is_nan x ≡ false → to_bits f x ≡ float_bits f x w
+  unfolding float_bits
+  bits_not_nan h = simp h
+
   pub bits_nan : is_nan x ≡ true → nan_word (own_of f) w ≡ float_bits f x w
   unfolding float_bits
   bits_nan h = simp h
@@ -61,6 +65,12 @@ unfolding div of_bits of_fields odd
 zero_over_zero binary32 = refl
 zero_over_zero binary64 = refl
 
+-- the language's own NaN
+quiet_nan : (f : Format) → of_bits f (inf_in (own_of f) + 2 ^ (fraction_of (own_of f) - 1)) ≡ nan
+unfolding of_bits of_fields odd
+quiet_nan binary32 = refl
+quiet_nan binary64 = refl
+
 pub word_beside : (f : format.Format) (b : ℕ) → true ≡ nan_in f b → b ≡ word_for f b
 word_beside f b h = simp (sym h)
 
@@ -80,6 +90,10 @@ module _ (f : Format) (b : ℕ) (small : b < 2 * top f) where
   -- zero over zero is the NaN
   pub made_nan : true ≡ nan_in (own_of f) b → div f (of_bits f 0) (of_bits f 0) ≡ of_bits f b
   made_nan h = zero_over_zero f ∙ sym (only_nan (of_bits f b) (nan_test ∙ sym h))
+
+  -- and so is the language's own
+  pub quiet_made : true ≡ nan_in (own_of f) b → of_bits f (inf_in (own_of f) + 2 ^ (fraction_of (own_of f) - 1)) ≡ of_bits f b
+  quiet_made h = quiet_nan f ∙ sym (only_nan (of_bits f b) (nan_test ∙ sym h))
 
   -- every pattern is the bits of the float made from it, a NaN's included
   pub bits_pattern : float_bits f (of_bits f b) (word_for (own_of f) b) ≡ b

@@ -1,17 +1,15 @@
 -- Two's complement: what the machine's signed operations give, and that reading undoes writing.
 use mathlib.Core.Path.{◌≡◌, refl, sym, ◌∙◌, ap, subst}
 use mathlib.Core.Logic.{inl, inr}
-use mathlib.Core.Bool.{true, false, true≢false}
-use Prim.Native.Nat.{ℕ, suc, ◌-◌, ◌*◌, ◌^◌, ◌≤◌, ◌<◌}
-use native.Mathlib.Nat.{lt_of_lt_of_le, le_trans, le_of_lt}
+use Prim.Native.Nat.{ℕ, ◌-◌, ◌*◌, ◌^◌, ◌≤◌, ◌<◌}
+use native.Mathlib.Nat.{lt_of_lt_of_le}
 use native.Mathlib.Omega.{arith}
-use borrow.Author.Tests.{lt-ltb, le-ltb, le-leb}
-use lib.Dec.{T}
-use lib.IntN.{ℤ, pos, negsuc, nat_abs, ◌-ℤ◌}
-use lib.Signed.{mag, le_z, non_neg, pos-nat_abs}
-use mir.Syntax.{Width, w64}
-use mir.Val.{Fits, SFits, hbits, to_z, of_z}
-use mir.ValLaws.{to_z-of_z, half_full}
+use borrow.Author.Tests.{lt-ltb, le-ltb}
+use lib.IntN.{ℤ, pos, negsuc}
+use lib.Signed.{mag}
+use mir.Syntax.{Width}
+use mir.Val.{SFits, bits, hbits, to_z, of_z}
+use mir.ValLaws.{to_z-of_z}
 use Rattle.value.specs.Meaning.{FitsSigned, twos_of, from_twos}
 use Rattle.float.proofs.Naturals.{lt_or_ge}
 
@@ -25,53 +23,6 @@ pub below_fits : (half : ℕ) (z : ℤ) → mag z < half → FitsSigned half z
 below_fits half (pos n) h = h
 below_fits half (negsuc n) h = h
 
--- ---- the machine's reading of a signed number z, where it tests 0 <= z
-
-complement : (n : ℕ) → negsuc 0 -ℤ negsuc n ≡ pos n
-complement n = let q : suc n - 1 ≡ n = omega arith in simp (le-ltb (suc n) 1 (omega arith), q)
-
-natural : {w : Width} (z : ℤ) → SFits w z → le_z (pos 0) z ≡ true → T (non_neg z) × Fits w (nat_abs z)
-natural {w} (pos n) f h = (tt, record { fits = half_full w f.sfits })
-natural (negsuc n) f h = absurd (true≢false (sym h))
-
-negative : (z : ℤ) → le_z (pos 0) z ≡ false → negsuc (mag z) ≡ z
-negative (pos n) h = absurd (true≢false (sym (le-leb 0 n (omega arith)) ∙ h))
-negative (negsuc n) h = refl
-
-module _ {w : Width} (z : ℤ) (f : SFits w z) where
-  read : to_z w (of_z w z) ≡ z
-  read = to_z-of_z w z f
-
-  module _ (h : le_z (pos 0) (to_z w (of_z w z)) ≡ true) where
-    pub natural_cast : T (non_neg (to_z w (of_z w z))) × Fits w (nat_abs (to_z w (of_z w z)))
-    natural_cast = rw read (natural z f (rw read at h))
-
-    pub natural_self : pos (nat_abs (to_z w (of_z w z))) ≡ z
-    natural_self = pos-nat_abs (to_z w (of_z w z)) natural_cast.0 ∙ read
-
-  module _ (h : le_z (pos 0) (to_z w (of_z w z)) ≡ false) where
-    pub negative_self : negsuc (mag z) ≡ z
-    negative_self = negative z (rw read at h)
-
-    turned : negsuc 0 -ℤ to_z w (of_z w z) ≡ pos (mag z)
-    turned = rw read (ap (λ (y : ℤ). negsuc 0 -ℤ y) (sym negative_self) ∙ complement (mag z))
-
-    pub negative_fits : SFits w (negsuc 0 -ℤ to_z w (of_z w z))
-    negative_fits = rw turned (record { sfits = f.sfits })
-
-    pub twice : to_z w (of_z w (negsuc 0 -ℤ to_z w (of_z w z))) ≡ pos (mag z)
-    twice = to_z-of_z w _ negative_fits ∙ turned
-
-    pub negative_cast : T (non_neg (to_z w (of_z w (negsuc 0 -ℤ to_z w (of_z w z)))))
-        × Fits w (nat_abs (to_z w (of_z w (negsuc 0 -ℤ to_z w (of_z w z)))))
-    negative_cast = rw twice (tt, record { fits = half_full w f.sfits })
-
-    pub negative_below : (ones : ℕ) → mag z ≤ ones → nat_abs (to_z w (of_z w (negsuc 0 -ℤ to_z w (of_z w z)))) ≤ ones
-    negative_below ones l = rw twice l
-
-    pub negative_is : (ones : ℕ) → ones - nat_abs (to_z w (of_z w (negsuc 0 -ℤ to_z w (of_z w z)))) ≡ twos_of ones z
-    negative_is ones = rw twice (ap (twos_of ones) negative_self)
-
 -- ---- a signed number that two widths hold, cast from one to the other
 
 pub wider : {v : Width} (w : Width) {z : ℤ} → 2 ^ hbits v ≤ 2 ^ hbits w → SFits v z → SFits w z
@@ -84,20 +35,6 @@ module _ {v : Width} (w : Width) {z : ℤ} (f : SFits v z) (g : SFits w z) where
   pub recast_back : to_z w (of_z w (to_z v (of_z v z))) ≡ z
   recast_back = to_z-of_z w _ recast ∙ to_z-of_z v z f
 
--- a word's number that a narrower width holds
-module _ (w : Width) (z : ℤ) (h : mag z < 2 ^ hbits w) (l : 2 ^ hbits w ≤ 2 ^ 63) where
-  in_word : SFits w64 z
-  in_word = record { sfits = lt_of_lt_of_le h l }
-
-  pub narrowed : SFits w (to_z w64 (of_z w64 z))
-  narrowed = recast w in_word (record { sfits = h })
-
-  pub narrowed_back : to_z w (of_z w (to_z w64 (of_z w64 z))) ≡ z
-  narrowed_back = recast_back w in_word (record { sfits = h })
-
-pub mag_below : {w : Width} {z : ℤ} (ones : ℕ) → SFits w z → 2 ^ hbits w ≤ ones → mag z ≤ ones
-mag_below ones f h = le_trans (le_of_lt f.sfits) h
-
 -- ---- reading undoes writing
 
 pub from_low : (half n : ℕ) → n < half → pos n ≡ from_twos half n
@@ -105,6 +42,13 @@ from_low half n h = simp (lt-ltb _ _ h)
 
 pub from_high : (half n : ℕ) {x : ℕ} → half ≤ n → x ≡ 2 * half - 1 - n → negsuc x ≡ from_twos half n
 from_high half n h q = simp (le-ltb _ _ h) (ap negsuc q)
+
+-- the machine's reading of a pattern
+pub reading : (w : Width) (n : ℕ) → 2 ^ bits w ≡ 2 * 2 ^ hbits w → to_z w n ≡ from_twos (2 ^ hbits w) n
+reading w n e = elim (lt_or_ge n (2 ^ hbits w)) [
+  | inl l ↦ simp (lt-ltb _ _ l)
+  | inr g ↦ simp (le-ltb _ _ g) (ap negsuc (omega (arith, e)))
+]
 
 pub twos_from : (half n : ℕ) → n < 2 * half → twos_of (2 * half - 1) (from_twos half n) ≡ n
 twos_from half n h = elim (lt_or_ge n half) [

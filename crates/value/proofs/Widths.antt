@@ -1,13 +1,11 @@
--- The bits of a kind's samples fill one to eight whole bytes, and a layout tells how many they are.
-use mathlib.Core.Path.{◌≡◌, refl, sym, ◌∙◌, ap}
+-- The bits of a kind's samples fill one to eight whole bytes.
+use mathlib.Core.Path.{◌≡◌, refl}
 use Prim.Native.Nat.{ℕ, ◌/◌, ◌^◌, ◌≤◌, ◌<◌}
 use native.Mathlib.Omega.{arith}
 use lib.Dec.{lit≤}
-use Rattle.value.specs.Kinds.{Form, unsigned, signed, floating, form_of, layout_for, width_in, width_of, bytes_of}
+use Rattle.value.specs.Kinds.{Form, form_of, width_in, width_of, bytes_of}
 use Rattle.value.specs.declared.Kind.{Kind}
 use Rattle.value.specs.declared.Kind.TheVariants as kind
-use Rattle.value.specs.declared.Layout.{Layout}
-use Rattle.value.specs.declared.Layout.TheVariants as layout
 
 abbrev pub Sized : Form → Type 0
 Sized form = (8 ≤ width_in form) × (width_in form ≤ 64) × (256 ^ (width_in form / 8) ≡ 2 ^ width_in form)
@@ -24,24 +22,6 @@ kind_sized kind.I64 = (lit≤ tt, lit≤ tt, refl)
 kind_sized kind.F32 = (lit≤ tt, lit≤ tt, refl)
 kind_sized kind.F64 = (lit≤ tt, lit≤ tt, refl)
 kind_sized kind.F16 = (lit≤ tt, lit≤ tt, refl)
-
--- ---- a layout
-
-abbrev width_for : Layout → ℕ
-width_for (layout.Unsigned n) = n
-width_for (layout.Signed n) = n
-width_for (layout.Float n p) = n
-
-form_width : (form : Form) → width_for (layout_for form) ≡ width_in form
-form_width (unsigned n) = refl
-form_width (signed n) = refl
-form_width (floating f) = refl
-
--- the arm of l in a match on the layout of k
-pub width_told : (k : Kind) {l m : Layout} → m ≡ layout_for (form_of k) → m ≡ l → (width_for l ≡ width_of k) × (8 ≤ width_for l) × (width_for l ≤ 64)
-width_told k q told =
-    let width = ap width_for (sym told ∙ q) ∙ form_width (form_of k) in
-    (width, rw width (kind_sized k).0, rw width (kind_sized k).1)
 
 -- ---- bytes
 

@@ -25,19 +25,7 @@ pub fn kind_of(v: Value) -> Kind
 pub fn kind_number(k: Kind) -> u8
     ensures { result ≡ kind_number k }
 {
-    match k {
-        Kind::U8 => 0,
-        Kind::U16 => 1,
-        Kind::U32 => 2,
-        Kind::U64 => 3,
-        Kind::I8 => 4,
-        Kind::I16 => 5,
-        Kind::I32 => 6,
-        Kind::I64 => 7,
-        Kind::F32 => 8,
-        Kind::F64 => 9,
-        Kind::F16 => 10,
-    }
+    k as u8
 }
 
 pub fn layout_of(k: Kind) -> Layout
@@ -63,9 +51,7 @@ pub fn width_of(k: Kind) -> usize
     ensures { (result ≡ width_of k) × (8 ≤ result) × (result ≤ 64) }
 {
     match layout_of(k) {
-        Layout::Unsigned(width) => width as usize,
-        Layout::Signed(width) => width as usize,
-        Layout::Float(width, _) => width as usize,
+        Layout::Unsigned(width) | Layout::Signed(width) | Layout::Float(width, _) => width as usize,
     }
 }
 
@@ -76,49 +62,20 @@ pub fn bytes_of(k: Kind) -> usize
     width_of(k) / 8
 }
 
-// The kinds of a form in the order of their numbers.
-fn unsigned_kind(step: u8) -> Kind
-    requires { step < 4 }
-    ensures { Some result ≡ kind_at step }
-{
-    match step {
-        0 => Kind::U8,
-        1 => Kind::U16,
-        2 => Kind::U32,
-        _ => Kind::U64,
-    }
-}
+// The kinds of each form in the order of their numbers.
+const UNSIGNED: [Kind; 4] = [Kind::U8, Kind::U16, Kind::U32, Kind::U64];
 
-fn signed_kind(step: u8) -> Kind
-    requires { step < 4 }
-    ensures { Some result ≡ kind_at (4 + step) }
-{
-    match step {
-        0 => Kind::I8,
-        1 => Kind::I16,
-        2 => Kind::I32,
-        _ => Kind::I64,
-    }
-}
+const SIGNED: [Kind; 4] = [Kind::I8, Kind::I16, Kind::I32, Kind::I64];
 
-fn float_kind(step: u8) -> Kind
-    requires { step < 3 }
-    ensures { Some result ≡ kind_at (8 + step) }
-{
-    match step {
-        0 => Kind::F32,
-        1 => Kind::F64,
-        _ => Kind::F16,
-    }
-}
+const FLOATS: [Kind; 3] = [Kind::F32, Kind::F64, Kind::F16];
 
 pub fn kind_of_number(n: u8) -> Option<Kind>
     ensures { result ≡ kind_at n }
 {
     match n {
-        0..=3 => Some(unsigned_kind(n)),
-        4..=7 => Some(signed_kind(n - 4)),
-        8..=10 => Some(float_kind(n - 8)),
+        0..=3 => Some(UNSIGNED[n as usize]),
+        4..=7 => Some(SIGNED[n as usize - 4]),
+        8..=10 => Some(FLOATS[n as usize - 8]),
         _ => None,
     }
 }

@@ -54,4 +54,3 @@ pub struct Refusal {
     pub number: u8,
     pub place: usize,
 }
-

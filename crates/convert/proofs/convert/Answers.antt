@@ -1,39 +1,35 @@
--- The kinds' numbers are one, or they differ.
+-- The kinds are one, or they differ.
 use mathlib.Core.Path.{◌≡◌, sym, ◌∙◌, ap}
-use Rattle.value.specs.Kinds.{kind_of, kind_number}
+use borrow.Author.Rules.{rules}
+use denote.Enum.Bare.{same_true, same_false}
+use Rattle.value.specs.Kinds.{kind_number}
 use Rattle.value.specs.declared.Kind.{Kind}
 use Rattle.value.specs.declared.Kind.TheVariants as kind
+use Rattle.value.specs.contracts.Kind.{the_type}
 use Rattle.value.specs.Meaning.{exact_of}
+use Rattle.value.proofs.KindNumbers.{number_injective}
 use Rattle.convert.specs.Convert.{convert_of}
 use Rattle.convert.specs.Inner.{into_of}
 use Rattle.convert.proofs.Exactly.{own_kind_lem, other_kind}
 use Rattle.convert.proofs.convert.Goals as goal
-use Rattle.convert.proofs.convert.Goals.{After-kind_number-2, Else-kind_number}
+use Rattle.convert.proofs.convert.Goals.{Else-eq}
 
-source_is : (c : After-kind_number-2) → c.kind_number.result ≡ kind_number (kind_of c.args.v)
-source_is c = c.kind_number.ensures ∙ ap kind_number c.kind_of.ensures
+pub returns-then-eq : goal.returns-then-eq
+returns-then-eq c =
+    let same = same_true the_type (search rules) _ _ (sym c.eq.ensures ∙ c.if-eq.true) in
+    sym (own_kind_lem c.args.v c.args.to (ap kind_number (sym c.kind_of.ensures ∙ same)))
 
-pub returns-then-kind_number : goal.returns-then-kind_number
-returns-then-kind_number c =
-    let a = c.args in
-    sym (own_kind_lem a.v a.to (sym (source_is ((goal.at.returns-then-kind_number c).After-kind_number-2)) ∙ c.if-kind_number.true ∙ c.kind_number-2.ensures))
-
-past : (c : Else-kind_number) → convert_of c.args.v c.args.to
-    ≡ into_of c.args.to (exact_of c.args.v)
+past : (c : Else-eq) → convert_of c.args.v c.args.to ≡ into_of c.args.to (exact_of c.args.v)
 past c =
-    let a = c.args in
-    other_kind a.v a.to (λ q. c.if-kind_number.false (source_is c.before ∙ q ∙ sym c.kind_number-2.ensures))
+    other_kind c.args.v c.args.to
+    (λ q. same_false the_type _ _ (sym c.eq.ensures ∙ c.if-eq.false) (c.kind_of.ensures ∙ number_injective _ _ q))
 
-pub returns-in-F32 : goal.returns-in-F32
-returns-in-F32 c =
+pub returns-in-F16-F32 : goal.returns-in-F16-F32
+returns-in-F16-F32 c =
     c.half_to_f32.ensures
-    ∙ ap (into_of kind.F32) (sym (ap exact_of c.in-F16.is))
-    ∙ ap (λ (k : Kind). into_of k (exact_of c.args.v)) (sym c.in-F32.is)
-    ∙ sym (past ((goal.at.returns-in-F32 c).Else-kind_number))
-
-pub returns-in_default-to : goal.returns-in_default-to
-returns-in_default-to c =
-    c.put.ensures ∙ ap (into_of _) (c.parts_of.ensures ∙ sym (ap exact_of c.in-F16.is)) ∙ sym (past ((goal.at.returns-in_default-to c).Else-kind_number))
+    ∙ ap (into_of kind.F32) (sym (ap exact_of c.in-F16-F32.is-0))
+    ∙ ap (λ (k : Kind). into_of k (exact_of c.args.v)) (sym c.in-F16-F32.is-1)
+    ∙ sym (past ((goal.at.returns-in-F16-F32 c).Else-eq))
 
 pub returns-in_default : goal.returns-in_default
-returns-in_default c = c.put-in_default.ensures ∙ ap (into_of _) c.parts_of-in_default.ensures ∙ sym (past ((goal.at.returns-in_default c).Else-kind_number))
+returns-in_default c = c.put.ensures ∙ ap (into_of _) c.parts_of.ensures ∙ sym (past ((goal.at.returns-in_default c).Else-eq))

@@ -1,23 +1,18 @@
 -- Each arm has passed the tests of the definition, in its order, by the language's own operators.
+use mathlib.Core.Path.{sym, ◌∙◌, ap}
 use borrow.Author.Rules.{rules}
-use Rattle.choose.proofs.Samples.{sample_bounds, sample_nan, sample_lower, sample_upper, sample_self}
+use Rattle.value.specs.Outcome.{gives}
+use Rattle.choose.proofs.Samples.{sample_bounds, sample_is_nan, sample_number}
 use Rattle.choose.proofs.Range.clamp.Goals as goal
 
-pub returns-then-x : goal.returns-then-x
-returns-then-x c = sample_nan _ _ (search rules) (search rules) (search rules) c.if-low-high.true c.if-x.true
+pub returns-then-is_nan : goal.returns-then-is_nan
+returns-then-is_nan c =
+    sample_is_nan _ _ (search rules) (search rules) (search rules) c.if-self.true (sym c.is_nan.ensures.value ∙ c.if-is_nan.true)
 
-pub returns-then-x-low : goal.returns-then-x-low
-returns-then-x-low c = sample_lower _ _ (search rules) (search rules) (search rules) c.if-low-high.true c.if-x.false c.if-x-low.true
+pub returns-else-is_nan : goal.returns-else-is_nan
+returns-else-is_nan c =
+    ap gives c.clamp.ensures.value
+    ∙ sample_number _ _ (search rules) (search rules) (search rules) c.if-self.true (sym c.is_nan.ensures.value ∙ c.if-is_nan.false)
 
-pub returns-then-high-x : goal.returns-then-high-x
-returns-then-high-x c =
-    sample_upper _ _ (search rules) (search rules) (search rules) c.if-low-high.true
-    c.if-x.false c.if-x-low.false c.if-high-x.true
-
-pub returns-else-high-x : goal.returns-else-high-x
-returns-else-high-x c =
-    sample_self _ _ (search rules) (search rules) (search rules) c.if-low-high.true
-    c.if-x.false c.if-x-low.false c.if-high-x.false
-
-pub returns-else-low-high : goal.returns-else-low-high
-returns-else-low-high c = sample_bounds _ _ (search rules) (search rules) (search rules) c.if-low-high.false
+pub returns-else-self : goal.returns-else-self
+returns-else-self c = sample_bounds _ _ (search rules) (search rules) (search rules) c.if-self.false

@@ -1,12 +1,11 @@
 -- The comparison, then the choice by its order.
-use mathlib.Core.Path.{◌∙◌, ap}
-use Rattle.value.specs.Outcome.{and_then}
-use Rattle.cmp.specs.Inner.{chosen_by}
-use Rattle.choose.proofs.Choice.{min_chosen}
+use mathlib.Core.Path.{◌∙◌}
+use Rattle.value.proofs.Outcomes.{passed_on}
+use Rattle.choose.proofs.Choice.{min_chosen, min_refused}
 use Rattle.choose.proofs.choosing.min.Goals as goal
 
+pub returns-in_err-compare : goal.returns-in_err-compare
+returns-in_err-compare c = passed_on _ _ c.from_residual.ensures.1 ∙ min_refused _ _ _ c.in_err-compare.ensures
+
 pub returns : goal.returns
-returns c =
-    let a = c.args.a in
-    let b = c.args.b in
-    c.chosen_by.ensures ∙ ap (λ o. and_then o (chosen_by 0 a b)) c.compare.ensures ∙ min_chosen a b
+returns c = c.chosen.ensures ∙ min_chosen _ _ c.in_ok-compare.ensures

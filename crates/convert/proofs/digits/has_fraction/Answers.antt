@@ -4,5 +4,5 @@ use borrow.Author.Rules.{rules}
 use Rattle.convert.proofs.Binary.{trailing_fraction}
 use Rattle.convert.proofs.digits.has_fraction.Goals as goal
 
-pub returns : goal.returns
-returns c = trailing_fraction 64 _ _ (omega (arith, c.if-m-eq0.false)) (search rules)
+pub returns-then-m-ne0 : goal.returns-then-m-ne0
+returns-then-m-ne0 c = trailing_fraction 64 _ _ (omega (arith, c.if-m-ne0.true)) (search rules)

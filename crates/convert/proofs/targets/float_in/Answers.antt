@@ -1,29 +1,24 @@
--- Each arm is a case of `float_in`; the infinity's field fits.
-use mathlib.Core.Path.{◌≡◌, sym, ◌∙◌, ap}
-use Prim.Native.Nat.{ℕ, ◌+◌, ◌*◌, ◌%◌, ◌^◌}
-use native.Mathlib.Nat.{mod-eq_of_lt}
-use native.Mathlib.Omega.{arith}
+-- Each arm is a case of `float_in`.
+use mathlib.Core.Path.{sym, ◌∙◌, ap}
+use Prim.Native.Nat.{ℕ, ◌^◌}
 use Rattle.value.specs.Outcome.{gives}
 use Rattle.convert.specs.declared.Parts.{Parts}
 use Rattle.convert.specs.Inner.{meaning, float_in}
-use Rattle.convert.proofs.Holds.{field_small}
 use Rattle.convert.proofs.targets.float_in.Goals as goal
 
 pub returns-in-NotANumber : goal.returns-in-NotANumber
 unfolding float_in
-returns-in-NotANumber c = let a = c.args in sym (ap (λ (x : Parts). float_in a.p (2 ^ a.c) a.last (meaning x)) c.in-NotANumber.is)
+returns-in-NotANumber c = let a = c.args in sym (ap (λ (x : Parts). float_in a.format.fraction (2 ^ a.format.step) a.format.last (meaning x)) c.in-NotANumber.is)
 
 pub returns-in-Infinite : goal.returns-in-Infinite
 unfolding float_in
 returns-in-Infinite c =
     let a = c.args in
-    let f = field_small (a.last + 2) a.p (a.last + 2) (omega arith) (omega (arith, c.requires.1)) c.requires.0 in
-    let i : (a.last + 2) * 2 ^ a.p % 2 ^ 64 ≡ (a.last + 2) * 2 ^ a.p = mod-eq_of_lt (omega arith) in
-    ap (λ (n : ℕ). gives (c.in-Infinite.s, n)) i
-    ∙ sym (ap (λ (x : Parts). float_in a.p (2 ^ a.c) a.last (meaning x)) c.in-Infinite.is)
+    ap (λ (n : ℕ). gives (c.in-Infinite.negative, n)) c.infinity.ensures
+    ∙ sym (ap (λ (x : Parts). float_in a.format.fraction (2 ^ a.format.step) a.format.last (meaning x)) c.in-Infinite.is)
 
 pub returns-in-Finite : goal.returns-in-Finite
 unfolding float_in
 returns-in-Finite c =
     let a = c.args in
-    c.held.ensures ∙ sym (ap (λ (x : Parts). float_in a.p (2 ^ a.c) a.last (meaning x)) c.in-Finite.is)
+    c.held.ensures ∙ sym (ap (λ (x : Parts). float_in a.format.fraction (2 ^ a.format.step) a.format.last (meaning x)) c.in-Finite.is)

@@ -3,7 +3,7 @@ use mathlib.Core.Path.{sym, ◌∙◌}
 use borrow.Author.Rules.{rules}
 use lib.Ieee.{binary32}
 use Rattle.float.specs.Format.{f32}
-use Rattle.value.proofs.FloatBits.{from_bits, made_nan, word_beside, word_none}
+use Rattle.value.proofs.FloatBits.{from_bits, quiet_made, word_beside}
 use Rattle.value.proofs.patterns.f32_value.Goals as goal
 
 pub float_from_bits-result : goal.float_from_bits-result
@@ -12,4 +12,4 @@ float_from_bits-result c = from_bits binary32 _ (search rules) (sym c.if-is_nan_
 pub returns-then-is_nan_f32 : goal.returns-then-is_nan_f32
 returns-then-is_nan_f32 c =
     let h = sym c.if-is_nan_f32.true ∙ c.is_nan_f32.ensures in
-    cc (made_nan binary32 _ (search rules) h, word_beside f32 _ h)
+    cc (quiet_made binary32 _ (search rules) h, word_beside f32 _ h)

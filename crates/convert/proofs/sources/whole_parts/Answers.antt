@@ -1,7 +1,7 @@
--- 2^1074 units are 1.
+-- The unit is 2^1074.
 use mathlib.Core.Path.{refl}
 use Rattle.value.specs.Meaning.{unit}
-use Rattle.convert.proofs.sources.natural_parts.Goals as goal
+use Rattle.convert.proofs.sources.whole_parts.Goals as goal
 
 pub returns : goal.returns
 unfolding unit
