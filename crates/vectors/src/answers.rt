@@ -1,13 +1,13 @@
 // What a line is answered with, and its text.
-use crate::bytes::Bytes;
+use crate::bytes::write_bytes;
 use crate::rows::Samples;
 use float::{Class, Order};
 use record::Record;
-use std::{fmt, str};
+use std::fmt;
 use text::{KIND_NAMES, digits_of, nth_word};
 use value::{Refusal, Value, bits_of, kind_number, kind_of};
 
-#[derive(Clone, Copy)]
+#[derive(Drop)]
 pub(crate) enum Answer<'a> {
     Class(Class),
     Order(Order),
@@ -15,9 +15,9 @@ pub(crate) enum Answer<'a> {
     Value(Value),
     Record(Record),
     Row(Samples<'a>),
-    Bytes(Bytes<'a>),
+    Bytes(&'a [u8]),
     // The length of a key, and all bytes that were lent for it.
-    Key(usize, Bytes<'a>),
+    Key(usize, &'a [u8]),
 }
 
 // Why a line has no such answer.
@@ -44,8 +44,11 @@ impl fmt::Display for Answer<'_> {
             Answer::Value(v) => write_value(f, *v),
             Answer::Record(r) => write_record(f, r),
             Answer::Row(samples) => write!(f, "{samples}"),
-            Answer::Bytes(bytes) => write!(f, "{bytes}"),
-            Answer::Key(n, lent) => write!(f, "{n} {lent}"),
+            Answer::Bytes(bytes) => write_bytes(f, bytes),
+            Answer::Key(n, lent) => {
+                write!(f, "{n} ")?;
+                write_bytes(f, lent)
+            }
         }
     }
 }

@@ -2,11 +2,6 @@
 use std::fmt;
 use text::hex_number;
 
-#[derive(Clone, Copy)]
-pub(crate) struct Bytes<'a> {
-    pub bytes: &'a [u8],
-}
-
 // Puts the bytes of a text at the front of a row: these bytes. No string of a line is longer than the row.
 pub(crate) fn bytes_in<'a>(s: &[u8], row: &'a mut [u8; 512]) -> Option<&'a [u8]> {
     if matches!(s, b"-") {
@@ -22,14 +17,12 @@ pub(crate) fn bytes_in<'a>(s: &[u8], row: &'a mut [u8; 512]) -> Option<&'a [u8]>
     Some(&row[..n])
 }
 
-impl fmt::Display for Bytes<'_> {
-    fn fmt<W: fmt::Write>(&self, f: &mut fmt::Formatter<W>) -> fmt::Result {
-        if self.bytes.is_empty() {
-            return f.write_char('-');
-        }
-        for b in self.bytes {
-            write!(f, "{b:02x}")?;
-        }
-        Ok(())
+pub(crate) fn write_bytes<W: fmt::Write>(f: &mut fmt::Formatter<W>, bytes: &[u8]) -> fmt::Result {
+    if bytes.is_empty() {
+        return f.write_char('-');
     }
+    for b in bytes {
+        write!(f, "{b:02x}")?;
+    }
+    Ok(())
 }

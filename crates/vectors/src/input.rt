@@ -28,7 +28,7 @@ impl Input {
     }
 
     // Reads more behind what is held, and says whether there is anything new. A last line that lacks its newline gets one; after a newline
-    // there is no further line. A line that fills the whole block is cut to a space, which begins no case line: it will be malformed, and
+    // there is no further line, and a read that fails is the end too. A line that fills the whole block is cut to a space, which begins no case line: it will be malformed, and
     // its bytes are dropped as they come.
     pub(crate) fn read_block(&mut self) -> bool {
         if self.held == self.bytes.len() {
@@ -36,7 +36,8 @@ impl Input {
             self.held = 1;
         }
         let held = self.held;
-        let got = read_some(&mut self.from, &mut self.bytes[held..]);
+        let bytes = &mut self.bytes[..];
+        let got = self.from.read(&mut bytes[held..]).unwrap_or(0);
         if got > 0 {
             self.held = held + got;
             return true;
@@ -57,11 +58,4 @@ impl Input {
         self.bytes.copy_within(n..held, 0);
         self.held = held - n;
     }
-}
-
-// How many bytes came. A read that fails is the end too.
-fn read_some(from: &mut Stdin, to: &mut [u8]) -> usize
-    ensures { result ≤ length to.new }
-{
-    from.read(to).unwrap_or(0)
 }

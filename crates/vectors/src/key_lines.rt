@@ -2,7 +2,7 @@
 ghost use Rattle.std.specs.Prelude.{◌≤◌};
 
 use crate::answers::{Answer, Fault};
-use crate::bytes::{Bytes, bytes_in};
+use crate::bytes::bytes_in;
 use crate::lists::count_in;
 use crate::records::{record_in, shape_in};
 use crate::rows::Rows;
@@ -15,14 +15,11 @@ pub(crate) fn write_line<'a>(rest: &[u8], rows: &'a mut Rows) -> Result<Answer<'
     let room = count_in(128, after(b' ', rest)).ok_or(Fault::Malformed)?;
     rows.fill(Kind::U8, room);
     let n = key::write(r, &mut rows.u8s[..room]).map_err(|f| rows.refused(f, Kind::U8, room))?;
-    let lent = Bytes {
-        bytes: &rows.u8s[..room],
-    };
-    Ok(Answer::Key(n, lent))
+    Ok(Answer::Key(n, &rows.u8s[..room]))
 }
 
 // A shape and a key.
-pub(crate) fn read_line<'a>(rest: &[u8], rows: &mut Rows) -> Result<Answer<'a>, Fault> {
+pub(crate) fn read_line(rest: &[u8], rows: &mut Rows) -> Result<Answer<'static>, Fault> {
     let shape = shape_in(before(b' ', rest)).ok_or(Fault::Malformed)?;
     let key = bytes_in(after(b' ', rest), &mut rows.one).ok_or(Fault::Malformed)?;
     let read = key::read(shape, key);
@@ -44,8 +41,5 @@ where
     let both = after(b' ', rest);
     let one = bytes_in(before(b' ', both), &mut rows.one).ok_or(Fault::Malformed)?;
     let other = bytes_in(after(b' ', both), &mut rows.other).ok_or(Fault::Malformed)?;
-    let chosen = Bytes {
-        bytes: choose(one, other, k as usize),
-    };
-    Ok(Answer::Bytes(chosen))
+    Ok(Answer::Bytes(choose(one, other, k as usize)))
 }

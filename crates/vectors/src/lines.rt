@@ -39,7 +39,7 @@ pub(crate) fn answer_to<'a>(line: &[u8], rows: &'a mut Rows) -> Result<Answer<'a
 }
 
 // Only a float has a class.
-fn class_line<'a>(rest: &[u8]) -> Result<Answer<'a>, Fault> {
+fn class_line(rest: &[u8]) -> Result<Answer<'static>, Fault> {
     match value_in(rest) {
         Some(Value::F32(x, word)) => Ok(Answer::Class(class_f32(bits_f32(x, word)))),
         Some(Value::F64(x, word)) => Ok(Answer::Class(class_f64(bits_f64(x, word)))),
@@ -48,19 +48,19 @@ fn class_line<'a>(rest: &[u8]) -> Result<Answer<'a>, Fault> {
     }
 }
 
-fn clamp_line<'a>(rest: &[u8]) -> Result<Answer<'a>, Fault> {
+fn clamp_line(rest: &[u8]) -> Result<Answer<'static>, Fault> {
     let v = value_in(before(b' ', rest)).ok_or(Fault::Malformed)?;
     let (lower, upper) = values_in(after(b' ', rest)).ok_or(Fault::Malformed)?;
     Ok(Answer::Value(choose::clamp(v, lower, upper)?))
 }
 
-fn convert_line<'a>(rest: &[u8]) -> Result<Answer<'a>, Fault> {
+fn convert_line(rest: &[u8]) -> Result<Answer<'static>, Fault> {
     let (v, to) = value_and_kind_in(rest).ok_or(Fault::Malformed)?;
     Ok(Answer::Value(convert::convert(v, to)?))
 }
 
 // The words that take two values.
-fn pair_line<'a>(word: &[u8], rest: &[u8]) -> Result<Answer<'a>, Fault> {
+fn pair_line(word: &[u8], rest: &[u8]) -> Result<Answer<'static>, Fault> {
     let (a, b) = values_in(rest).ok_or(Fault::Malformed)?;
     Ok(match word {
         b"compare" => Answer::Order(cmp::compare(a, b)?),

@@ -19,8 +19,8 @@ pub(crate) fn record_in(s: &[u8]) -> Option<Record> {
     let mut r = record::blank();
     r.count = items_in(s, MOST, |at, item| {
         let value = value_in(item)?;
-        if at < r.fields.len() {
-            r.fields[at] = Field { value };
+        if let Some(field) = r.fields.get_mut(at) {
+            *field = Field { value };
         }
         Some(())
     })?;
@@ -31,8 +31,8 @@ pub(crate) fn shape_in(s: &[u8]) -> Option<Shape> {
     let mut shape = record::blank_shape();
     shape.count = items_in(s, MOST, |at, item| {
         let kind = kind_named(item)?;
-        if at < shape.places.len() {
-            shape.places[at] = Place { kind };
+        if let Some(place) = shape.places.get_mut(at) {
+            *place = Place { kind };
         }
         Some(())
     })?;

@@ -118,12 +118,7 @@ impl Samples<'_> {
     // Whether the filling is still there.
     fn is_filled(&self) -> bool {
         let filling = bits_of(value_of(self.kind, FILLING));
-        for at in 0..self.count {
-            if bits_of(self.sample_at(at)) != filling {
-                return false;
-            }
-        }
-        true
+        (0..self.count).all(|at| bits_of(self.sample_at(at)) == filling)
     }
 }
 
