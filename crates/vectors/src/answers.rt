@@ -1,6 +1,6 @@
 // What a line is answered with, and its text.
 use crate::bytes::write_bytes;
-use crate::rows::Samples;
+use crate::rows::{Part, Rows};
 use float::{Class, Order};
 use record::Record;
 use std::fmt;
@@ -14,7 +14,7 @@ pub(crate) enum Answer<'a> {
     Test(bool),
     Value(Value),
     Record(Record),
-    Row(Samples<'a>),
+    Row(&'a Rows, Part),
     Bytes(&'a [u8]),
     // The length of a key, and all bytes that were lent for it.
     Key(usize, &'a [u8]),
@@ -43,7 +43,7 @@ impl fmt::Display for Answer<'_> {
             Answer::Test(yes) => f.write_str(if *yes { "yes" } else { "no" }),
             Answer::Value(v) => write_value(f, *v),
             Answer::Record(r) => write_record(f, r),
-            Answer::Row(samples) => write!(f, "{samples}"),
+            Answer::Row(rows, part) => rows.write(f, *part),
             Answer::Bytes(bytes) => write_bytes(f, bytes),
             Answer::Key(n, lent) => {
                 write!(f, "{n} ")?;
@@ -57,11 +57,7 @@ impl fmt::Display for Fault {
     fn fmt<W: fmt::Write>(&self, f: &mut fmt::Formatter<W>) -> fmt::Result {
         match self {
             Fault::Malformed => f.write_str("malformed"),
-            Fault::Refused(refusal) => {
-                let number = refusal.number;
-                let place = refusal.place;
-                write!(f, "refused {number} {place}")
-            }
+            Fault::Refused(refusal) => write!(f, "refused {} {}", refusal.number, refusal.place),
             Fault::Changed => f.write_str("changed"),
         }
     }

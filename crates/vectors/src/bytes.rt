@@ -8,7 +8,7 @@ pub(crate) fn bytes_in<'a>(s: &[u8], row: &'a mut [u8; 512]) -> Option<&'a [u8]>
         return Some(&row[..0]);
     }
     let n = s.len() / 2;
-    if n == 0 || s.len() % 2 != 0 || n > row.len() {
+    if s.is_empty() || s.len() % 2 != 0 || n > row.len() {
         return None;
     }
     for (pair, b) in s.chunks_exact(2).zip(row.iter_mut()) {

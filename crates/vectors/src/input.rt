@@ -1,5 +1,5 @@
 // Standard input, read in blocks.
-ghost use Rattle.std.specs.Prelude.{◌≤◌, ◌≡◌, length, take};
+ghost use Rattle.std.specs.Prelude.{◌≤◌, ◌≡◌, length};
 
 use std::io::{Read, Stdin};
 
@@ -27,9 +27,9 @@ impl Input {
         &self.bytes[..self.held]
     }
 
-    // Reads more behind what is held, and says whether there is anything new. A last line that lacks its newline gets one; after a newline
-    // there is no further line, and a read that fails is the end too. A line that fills the whole block is cut to a space, which begins no case line: it will be malformed, and
-    // its bytes are dropped as they come.
+    // Reads more behind what is held, and says whether there is anything new; a read that fails is the end too. A last line that lacks its
+    // newline gets one; after a newline there is no further line. A line that fills the whole block is cut to a space, which begins no case
+    // line: it will be malformed, and its bytes are dropped as they come.
     pub(crate) fn read_block(&mut self) -> bool {
         if self.held == self.bytes.len() {
             self.bytes[0] = b' ';

@@ -1,21 +1,23 @@
 // The lines about keys and the choice between rows of bytes.
-ghost use Rattle.std.specs.Prelude.{◌≤◌};
-
 use crate::answers::{Answer, Fault};
 use crate::bytes::bytes_in;
 use crate::lists::count_in;
 use crate::records::{record_in, shape_in};
-use crate::rows::Rows;
+use crate::rows::{Part, Rows};
 use text::{after, before, decimal_number};
 use value::Kind;
 
 // A record, and how many bytes of the row of bytes are lent for its key. They are filled before the call.
 pub(crate) fn write_line<'a>(rest: &[u8], rows: &'a mut Rows) -> Result<Answer<'a>, Fault> {
     let r = record_in(before(b' ', rest)).ok_or(Fault::Malformed)?;
-    let room = count_in(128, after(b' ', rest)).ok_or(Fault::Malformed)?;
-    rows.fill(Kind::U8, room);
-    let n = key::write(r, &mut rows.u8s[..room]).map_err(|f| rows.refused(f, Kind::U8, room))?;
-    Ok(Answer::Key(n, &rows.u8s[..room]))
+    let count = count_in(128, after(b' ', rest)).ok_or(Fault::Malformed)?;
+    let lent = Part {
+        kind: Kind::U8,
+        count,
+    };
+    rows.fill(lent);
+    let n = key::write(r, &mut rows.u8s[..count]).map_err(|f| rows.refused(f, lent))?;
+    Ok(Answer::Key(n, &rows.u8s[..count]))
 }
 
 // A shape and a key.

@@ -1,5 +1,5 @@
 // Lists as text, joined by commas, and `-` where they are empty; and numbers of things.
-ghost use Rattle.std.specs.Prelude.{◌≤◌, ◌<◌, ℕ, IfSome};
+ghost use Rattle.std.specs.Prelude.{◌≤◌, IfSome};
 
 use text::decimal_number;
 

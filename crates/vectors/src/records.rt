@@ -5,8 +5,8 @@ use crate::operands::value_in;
 use record::{Field, Place, Record, Shape};
 use text::{after, before, kind_named};
 
-// The most items of a list.
-const MOST: usize = 20;
+// The most values or names of a list.
+const MOST_FIELDS: usize = 20;
 
 // No record holds a space, so a third field makes the second record malformed.
 pub(crate) fn records_in(s: &[u8]) -> Option<(Record, Record)> {
@@ -17,7 +17,7 @@ pub(crate) fn records_in(s: &[u8]) -> Option<(Record, Record)> {
 
 pub(crate) fn record_in(s: &[u8]) -> Option<Record> {
     let mut r = record::blank();
-    r.count = items_in(s, MOST, |at, item| {
+    r.count = items_in(s, MOST_FIELDS, |at, item| {
         let value = value_in(item)?;
         if let Some(field) = r.fields.get_mut(at) {
             *field = Field { value };
@@ -29,7 +29,7 @@ pub(crate) fn record_in(s: &[u8]) -> Option<Record> {
 
 pub(crate) fn shape_in(s: &[u8]) -> Option<Shape> {
     let mut shape = record::blank_shape();
-    shape.count = items_in(s, MOST, |at, item| {
+    shape.count = items_in(s, MOST_FIELDS, |at, item| {
         let kind = kind_named(item)?;
         if let Some(place) = shape.places.get_mut(at) {
             *place = Place { kind };

@@ -1,10 +1,7 @@
 // The lines whose answers are rows. Their samples stand in the row of their kind, and so does the answer.
-ghost use Rattle.std.specs.Prelude.{◌≤◌};
-
 use crate::answers::{Answer, Fault};
-use crate::lists::count_in;
 use crate::operands::with_digits;
-use crate::rows::Rows;
+use crate::rows::{Part, Rows, part_in};
 use choose::Range;
 use text::{after, before, kind_named};
 use value::{Kind, Refusal, Value};
@@ -14,11 +11,11 @@ pub(crate) fn row_clamp_line<'a>(rest: &[u8], rows: &'a mut Rows) -> Result<Answ
     let next = after(b' ', rest);
     let lower = bound_in(before(b' ', rest)).ok_or(Fault::Malformed)?;
     let upper = bound_in(before(b' ', next)).ok_or(Fault::Malformed)?;
-    let count = rows
+    let samples = rows
         .read(Kind::F32, after(b' ', next))
         .ok_or(Fault::Malformed)?;
-    rowclamp::clamp(&mut rows.f32s[..count], Range { lower, upper })?;
-    Ok(Answer::Row(rows.front(Kind::F32, count)))
+    rowclamp::clamp(&mut rows.f32s[..samples.count], Range { lower, upper })?;
+    Ok(Answer::Row(rows, samples))
 }
 
 fn bound_in(s: &[u8]) -> Option<f32> {
@@ -28,35 +25,28 @@ fn bound_in(s: &[u8]) -> Option<f32> {
     }
 }
 
-// Two kinds, samples of the first, and how many samples of the second there is room for. The destination is filled before the call.
+// Two kinds, samples of the first, and how many samples of the second there is room for, which are filled before the call.
 pub(crate) fn row_line<'a>(rest: &[u8], rows: &'a mut Rows) -> Result<Answer<'a>, Fault> {
     let from = kind_named(before(b' ', rest)).ok_or(Fault::Malformed)?;
     let next = after(b' ', rest);
     let to = kind_named(before(b' ', next)).ok_or(Fault::Malformed)?;
     let last = after(b' ', next);
-    let count = rows.read(from, before(b' ', last)).ok_or(Fault::Malformed)?;
-    let room = count_in(8192, after(b' ', last)).ok_or(Fault::Malformed)?;
-    rows.fill(to, room);
-    let outcome = converted(rows, from, to, count, room).ok_or(Fault::Malformed)?;
-    outcome.map_err(|f| rows.refused(f, to, room))?;
-    Ok(Answer::Row(rows.front(to, room)))
+    let samples = rows.read(from, before(b' ', last)).ok_or(Fault::Malformed)?;
+    let lent = part_in(to, after(b' ', last)).ok_or(Fault::Malformed)?;
+    rows.fill(lent);
+    let outcome = converted(rows, samples, lent).ok_or(Fault::Malformed)?;
+    outcome.map_err(|f| rows.refused(f, lent))?;
+    Ok(Answer::Row(rows, lent))
 }
 
-// The four row conversions that there are, of `count` samples to `room` places.
-fn converted(
-    rows: &mut Rows,
-    from: Kind,
-    to: Kind,
-    count: usize,
-    room: usize,
-) -> Option<Result<(), Refusal>>
-    requires count_bound { count ≤ 8192 }
-    requires room_bound { room ≤ 8192 }
-{
+// The four row conversions that there are.
+fn converted(rows: &mut Rows, from: Part, to: Part) -> Option<Result<(), Refusal>> {
+    let count = from.count;
+    let room = to.count;
     let u8s = &mut rows.u8s[..];
     let u16s = &mut rows.u16s[..];
     let f32s = &mut rows.f32s[..];
-    match (from, to) {
+    match (from.kind, to.kind) {
         (Kind::U8, Kind::U16) => Some(row::u8_to_u16(&u8s[..count], &mut u16s[..room])),
         (Kind::U16, Kind::U8) => Some(row::u16_to_u8(&u16s[..count], &mut u8s[..room])),
         (Kind::U16, Kind::F32) => Some(row::u16_to_f32(&u16s[..count], &mut f32s[..room])),

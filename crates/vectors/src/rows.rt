@@ -1,16 +1,16 @@
 // The rows that are lent: one of samples for each kind that a row has, so that a conversion has its source in one and its destination in
 // another, and two of bytes. A sample goes in and comes out as a value.
-ghost use Rattle.std.specs.Prelude.{◌≤◌, ◌<◌, IfSome};
+ghost use Rattle.std.specs.Prelude.{◌≤◌, ◌<◌};
 
 use crate::answers::Fault;
-use crate::lists::items_in;
+use crate::lists::{count_in, items_in};
 use crate::operands::with_digits;
 use std::fmt;
 use text::digits_of;
 use value::{Kind, Refusal, Value, bits_of, value_of};
 
 // The most samples that a line may have. Of f32 a line has room for fewer.
-const MOST: usize = 8192;
+const MOST_SAMPLES: usize = 8192;
 
 // The bits that a destination holds before a conversion; a sample has as many of them as its kind.
 const FILLING: u64 = 0xa5a5_a5a5_a5a5_a5a5;
@@ -26,11 +26,16 @@ pub(crate) struct Rows {
 
 // The first `count` samples of the row of a kind.
 #[derive(Clone, Copy)]
-pub(crate) struct Samples<'a> {
-    rows: &'a Rows,
-    kind: Kind,
-    count: usize,
+pub(crate) struct Part {
+    pub kind: Kind,
+    pub count: usize,
     ghost in_row: { count ≤ 8192 },
+}
+
+// As many samples as a text says.
+pub(crate) fn part_in(kind: Kind, s: &[u8]) -> Option<Part> {
+    let count = count_in(MOST_SAMPLES, s)?;
+    Some(Part { kind, count })
 }
 
 impl Rows {
@@ -44,17 +49,16 @@ impl Rows {
         }
     }
 
-    // Puts the samples of a text, the digits of their kind each, at the front of the row of that kind: how many there are.
-    pub(crate) fn read(&mut self, kind: Kind, s: &[u8]) -> Option<usize>
-        ensures { IfSome result (λ n. n ≤ 8192) }
-    {
-        items_in(s, MOST, |at, digits| {
+    // Puts the samples of a text, the digits of their kind each, at the front of the row of that kind.
+    pub(crate) fn read(&mut self, kind: Kind, s: &[u8]) -> Option<Part> {
+        let count = items_in(s, MOST_SAMPLES, |at, digits| {
             let v = with_digits(kind, digits)?;
-            if at < MOST {
+            if at < MOST_SAMPLES {
                 self.store(v, at);
             }
             Some(())
-        })
+        })?;
+        Some(Part { kind, count })
     }
 
     // Puts a sample in the row of its kind; no other kind has a row.
@@ -69,11 +73,19 @@ impl Rows {
         }
     }
 
-    // Puts the filling in the first `count` places of the row of a kind.
-    pub(crate) fn fill(&mut self, kind: Kind, count: usize)
-        requires { count ≤ 8192 }
+    fn sample_at(&self, kind: Kind, at: usize) -> Value
+        requires { at < 8192 }
     {
-        match value_of(kind, FILLING) {
+        match kind {
+            Kind::U8 => Value::U8(self.u8s[at]),
+            Kind::U16 => Value::U16(self.u16s[at]),
+            _ => Value::F32(self.f32s[at], 0),
+        }
+    }
+
+    pub(crate) fn fill(&mut self, part: Part) {
+        let count = part.count;
+        match value_of(part.kind, FILLING) {
             Value::U8(n) => self.u8s[..count].fill(n),
             Value::U16(n) => self.u16s[..count].fill(n),
             Value::F32(x, _) => self.f32s[..count].fill(x),
@@ -81,59 +93,36 @@ impl Rows {
         }
     }
 
-    pub(crate) fn front(&self, kind: Kind, count: usize) -> Samples<'_>
-        requires { count ≤ 8192 }
-    {
-        Samples {
-            rows: self,
-            kind,
-            count,
-        }
+    // Whether the filling is still there.
+    fn is_filled(&self, part: Part) -> bool {
+        let filling = bits_of(value_of(part.kind, FILLING));
+        (0..part.count).all(|at| bits_of(self.sample_at(part.kind, at)) == filling)
     }
 
-    // What a refusal comes to: what is lent, and was filled before the call, stays as it was.
-    pub(crate) fn refused(&self, f: Refusal, kind: Kind, count: usize) -> Fault
-        requires { count ≤ 8192 }
-    {
-        if self.front(kind, count).is_filled() {
+    // What the refusal of a call comes to, to which a part was lent that was filled before.
+    pub(crate) fn refused(&self, f: Refusal, lent: Part) -> Fault {
+        if self.is_filled(lent) {
             Fault::Refused(f)
         } else {
             Fault::Changed
         }
     }
-}
 
-impl Samples<'_> {
-    fn sample_at(&self, at: usize) -> Value
-        requires { at < 8192 }
-    {
-        let rows = self.rows;
-        match self.kind {
-            Kind::U8 => Value::U8(rows.u8s[at]),
-            Kind::U16 => Value::U16(rows.u16s[at]),
-            _ => Value::F32(rows.f32s[at], 0),
-        }
-    }
-
-    // Whether the filling is still there.
-    fn is_filled(&self) -> bool {
-        let filling = bits_of(value_of(self.kind, FILLING));
-        (0..self.count).all(|at| bits_of(self.sample_at(at)) == filling)
-    }
-}
-
-impl fmt::Display for Samples<'_> {
-    fn fmt<W: fmt::Write>(&self, f: &mut fmt::Formatter<W>) -> fmt::Result {
-        let count = self.count;
-        if count == 0 {
+    // Samples as text: the digits of their kind each, joined by commas, and `-` where there are none.
+    pub(crate) fn write<W: fmt::Write>(
+        &self,
+        f: &mut fmt::Formatter<W>,
+        part: Part,
+    ) -> fmt::Result {
+        if part.count == 0 {
             return f.write_char('-');
         }
-        let digits = digits_of(self.kind);
-        for at in 0..count {
+        let digits = digits_of(part.kind);
+        for at in 0..part.count {
             if at > 0 {
                 f.write_char(',')?;
             }
-            let bits = bits_of(self.sample_at(at));
+            let bits = bits_of(self.sample_at(part.kind, at));
             write!(f, "{bits:0digits$x}")?;
         }
         Ok(())
