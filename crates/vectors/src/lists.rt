@@ -1,5 +1,5 @@
 // Lists as text, joined by commas, and `-` where they are empty; and numbers of things.
-ghost use Rattle.std.specs.Prelude.{◌≤◌, IfSome};
+ghost use Rattle.std.specs.Prelude.{◌≤◌, ◌<◌, ℕ, IfSome};
 
 use text::decimal_number;
 
@@ -9,20 +9,24 @@ pub(crate) fn items_in<F: FnMut(usize, &[u8]) -> Option<()>>(
     most: usize,
     mut put: F,
 ) -> Option<usize>
-    requires { F.IsAlwaysCallable put }
+    requires { (state : F) (at : ℕ) (item : _) → at < most → F.pre state at item }
     ensures { IfSome result (λ n. n ≤ most) }
 {
     if matches!(s, b"-") {
         return Some(0);
     }
-    let count = s.split(|b| *b == b',').count();
-    if count > most {
-        return None;
-    }
-    for (at, item) in s.split(|b| *b == b',').enumerate() {
+    let mut items = s.split(|b| *b == b',');
+    for at in 0..most {
+        let Some(item) = items.next() else {
+            return Some(at);
+        };
         put(at, item)?;
     }
-    Some(count)
+    if items.next().is_none() {
+        Some(most)
+    } else {
+        None
+    }
 }
 
 // A decimal number that is at most `most`.

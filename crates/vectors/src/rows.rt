@@ -51,13 +51,16 @@ impl Rows {
 
     // Puts the samples of a text, the digits of their kind each, at the front of the row of that kind.
     pub(crate) fn read(&mut self, kind: Kind, s: &[u8]) -> Option<Part> {
-        let count = items_in(s, MOST_SAMPLES, |at, digits| {
-            let v = with_digits(kind, digits)?;
-            if at < MOST_SAMPLES {
-                self.store(v, at);
-            }
-            Some(())
-        })?;
+        let count = items_in(
+            s,
+            MOST_SAMPLES,
+            |at: usize, digits: &[u8]| -> Option<()>
+                requires { at < 8192 }
+            {
+                self.store(with_digits(kind, digits)?, at);
+                Some(())
+            },
+        )?;
         Some(Part { kind, count })
     }
 
