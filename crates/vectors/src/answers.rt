@@ -82,7 +82,7 @@ fn order_word(o: Order) -> &'static str {
     }
 }
 
-// KIND:HEX, with all digits of the kind.
+// KIND:HEX, with all digits of the kind. The names of kinds are bytes (text::KIND_NAMES), and written letter by letter.
 fn write_value<W: fmt::Write>(f: &mut fmt::Formatter<W>, v: Value) -> fmt::Result {
     let kind = kind_of(v);
     let name = nth_word(&KIND_NAMES, kind_number(kind) as usize);

@@ -1,4 +1,4 @@
-// Standard input, read in blocks.
+// Standard input, read in blocks. The buffer is a fixed one, as std's readers of lines stand on the heap.
 ghost use Rattle.std.specs.Prelude.{◌≤◌, ◌≡◌, length};
 
 use std::io::{Read, Stdin};

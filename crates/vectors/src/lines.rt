@@ -10,7 +10,8 @@ use float::{class_f16, class_f32, class_f64};
 use text::{after, before};
 use value::{Value, bits_f32, bits_f64};
 
-// A line is a word, a space, and the operands that the word takes.
+// A line is a word, a space, and the operands that the word takes. A function of another crate is handed on by a closure: passed by its
+// name it has no contract here.
 pub(crate) fn answer_to<'a>(line: &[u8], rows: &'a mut Rows) -> Result<Answer<'a>, Fault> {
     let rest = after(b' ', line);
     match before(b' ', line) {

@@ -1,4 +1,4 @@
-// Standard output, collected in a buffer that is written out when it is full.
+// Standard output, collected in a buffer that is written out when it is full. The buffer is a fixed one, as std's stands on the heap.
 ghost use Rattle.std.specs.Prelude.{◌≤◌};
 
 use std::io;

@@ -1,6 +1,7 @@
 // The rows that are lent: one of samples for each kind that a row has, so that a conversion has its source in one and its destination in
 // another, and two of bytes. A sample goes in and comes out as a value.
 ghost use Rattle.std.specs.Prelude.{◌≤◌, ◌<◌};
+ghost use Rattle.vectors.specs.declared.rows.TheConstants.{MOST_SAMPLES};
 
 use crate::answers::Fault;
 use crate::lists::{count_in, items_in};
@@ -9,7 +10,7 @@ use std::fmt;
 use text::digits_of;
 use value::{Kind, Refusal, Value, bits_of, value_of};
 
-// The most samples that a line may have. Of f32 a line has room for fewer.
+// The most samples that a line may have, and the length of each row. Of f32 a line has room for fewer.
 const MOST_SAMPLES: usize = 8192;
 
 // The bits that a destination holds before a conversion; a sample has as many of them as its kind.
@@ -17,9 +18,9 @@ const FILLING: u64 = 0xa5a5_a5a5_a5a5_a5a5;
 
 #[derive(Drop)]
 pub(crate) struct Rows {
-    pub u8s: [u8; 8192],
-    pub u16s: [u16; 8192],
-    pub f32s: [f32; 8192],
+    pub u8s: [u8; MOST_SAMPLES],
+    pub u16s: [u16; MOST_SAMPLES],
+    pub f32s: [f32; MOST_SAMPLES],
     pub one: [u8; 512],
     pub other: [u8; 512],
 }
@@ -29,7 +30,7 @@ pub(crate) struct Rows {
 pub(crate) struct Part {
     pub kind: Kind,
     pub count: usize,
-    ghost in_row: { count ≤ 8192 },
+    ghost in_row: { count ≤ MOST_SAMPLES },
 }
 
 // As many samples as a text says.
@@ -41,9 +42,9 @@ pub(crate) fn part_in(kind: Kind, s: &[u8]) -> Option<Part> {
 impl Rows {
     pub(crate) fn new() -> Self {
         Rows {
-            u8s: [0; 8192],
-            u16s: [0; 8192],
-            f32s: [0.0; 8192],
+            u8s: [0; MOST_SAMPLES],
+            u16s: [0; MOST_SAMPLES],
+            f32s: [0.0; MOST_SAMPLES],
             one: [0; 512],
             other: [0; 512],
         }
@@ -55,7 +56,7 @@ impl Rows {
             s,
             MOST_SAMPLES,
             |at: usize, digits: &[u8]| -> Option<()>
-                requires { at < 8192 }
+                requires { at < MOST_SAMPLES }
             {
                 self.store(with_digits(kind, digits)?, at);
                 Some(())
@@ -66,7 +67,7 @@ impl Rows {
 
     // Puts a sample in the row of its kind; no other kind has a row.
     fn store(&mut self, v: Value, at: usize)
-        requires { at < 8192 }
+        requires { at < MOST_SAMPLES }
     {
         match v {
             Value::U8(n) => self.u8s[at] = n,
@@ -77,7 +78,7 @@ impl Rows {
     }
 
     fn sample_at(&self, kind: Kind, at: usize) -> Value
-        requires { at < 8192 }
+        requires { at < MOST_SAMPLES }
     {
         match kind {
             Kind::U8 => Value::U8(self.u8s[at]),
