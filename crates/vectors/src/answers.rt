@@ -1,116 +1,107 @@
-// Answers other than rows, and their text.
-ghost use Rattle.std.specs.Prelude.{◌≤◌};
-
-use crate::output::{Buffer, put, put_byte, put_decimal, put_hex};
+// What a line is answered with, and its text.
+use crate::bytes::write_bytes;
+use crate::rows::{Part, Rows};
 use float::{Class, Order};
+use record::Record;
+use std::fmt;
 use text::{KIND_NAMES, digits_of, nth_word};
 use value::{Refusal, Value, bits_of, kind_number, kind_of};
 
-#[derive(Clone, Copy)]
-pub enum Answer {
+#[derive(Drop)]
+pub(crate) enum Answer<'a> {
     Class(Class),
     Order(Order),
     Test(bool),
     Value(Value),
-    Refused(Refusal),
-    // A row or a record, which is put from where it stands.
-    Row,
-    Record,
-    // Lent memory that did not stay as it was after a refusal.
-    Changed,
+    Record(Record),
+    Row(&'a Rows, Part),
+    Bytes(&'a [u8]),
+    // The length of a key, and all bytes that were lent for it.
+    Key(usize, &'a [u8]),
+}
+
+// Why a line has no such answer.
+#[derive(Clone, Copy)]
+pub(crate) enum Fault {
     Malformed,
+    Refused(Refusal),
+    // Lent memory did not stay as it was after a refusal.
+    Changed,
 }
 
-pub(crate) fn compared(c: Result<Order, Refusal>) -> Answer {
+impl From<Refusal> for Fault {
+    fn from(f: Refusal) -> Self {
+        Fault::Refused(f)
+    }
+}
+
+impl fmt::Display for Answer<'_> {
+    fn fmt<W: fmt::Write>(&self, f: &mut fmt::Formatter<W>) -> fmt::Result {
+        match self {
+            Answer::Class(c) => f.write_str(class_word(*c)),
+            Answer::Order(o) => f.write_str(order_word(*o)),
+            Answer::Test(yes) => f.write_str(if *yes { "yes" } else { "no" }),
+            Answer::Value(v) => write_value(f, *v),
+            Answer::Record(r) => write_record(f, r),
+            Answer::Row(rows, part) => rows.write(f, *part),
+            Answer::Bytes(bytes) => write_bytes(f, bytes),
+            Answer::Key(n, lent) => {
+                write!(f, "{n} ")?;
+                write_bytes(f, lent)
+            }
+        }
+    }
+}
+
+impl fmt::Display for Fault {
+    fn fmt<W: fmt::Write>(&self, f: &mut fmt::Formatter<W>) -> fmt::Result {
+        match self {
+            Fault::Malformed => f.write_str("malformed"),
+            Fault::Refused(refusal) => write!(f, "refused {} {}", refusal.number, refusal.place),
+            Fault::Changed => f.write_str("changed"),
+        }
+    }
+}
+
+fn class_word(c: Class) -> &'static str {
     match c {
-        Ok(o) => Answer::Order(o),
-        Err(f) => Answer::Refused(f),
+        Class::Zero => "zero",
+        Class::Subnormal => "subnormal",
+        Class::Normal => "normal",
+        Class::Infinite => "infinite",
+        Class::Nan => "nan",
     }
 }
 
-// What is lent stays as it was when the call is refused.
-pub(crate) fn unless_changed(a: Answer, filled: bool) -> Answer {
-    match a {
-        Answer::Refused(f) => if filled {
-            Answer::Refused(f)
-        } else {
-            Answer::Changed
-        },
-        _ => a,
-    }
-}
-
-pub(crate) fn put_answer(output: &mut Buffer, used: usize, a: Answer) -> usize
-    requires { used ≤ 65536 }
-    ensures { result ≤ 65536 }
-{
-    match a {
-        Answer::Value(v) => put_value(output, used, v),
-        Answer::Refused(f) => put_refusal(output, used, f),
-        _ => put_word(output, used, word_for(a)),
-    }
-}
-
-// Words by number: classes, orders, the answers of tests, `changed` and `malformed`.
-fn put_word(output: &mut Buffer, used: usize, n: usize) -> usize
-    requires { used ≤ 65536 }
-    ensures { result ≤ 65536 }
-{
-    let words =
-        b"zero subnormal normal infinite nan Less Equal Greater Unordered no yes changed malformed";
-    put(output, used, nth_word(words, n))
-}
-
-fn word_for(a: Answer) -> usize {
-    match a {
-        Answer::Class(c) => class_word(c),
-        Answer::Order(o) => order_word(o),
-        Answer::Test(yes) => if yes { 10 } else { 9 },
-        Answer::Changed => 11,
-        _ => 12,
-    }
-}
-
-fn class_word(c: Class) -> usize {
-    match c {
-        Class::Zero => 0,
-        Class::Subnormal => 1,
-        Class::Normal => 2,
-        Class::Infinite => 3,
-        Class::Nan => 4,
-    }
-}
-
-fn order_word(o: Order) -> usize {
+fn order_word(o: Order) -> &'static str {
     match o {
-        Order::Less => 5,
-        Order::Equal => 6,
-        Order::Greater => 7,
-        Order::Unordered => 8,
+        Order::Less => "Less",
+        Order::Equal => "Equal",
+        Order::Greater => "Greater",
+        Order::Unordered => "Unordered",
     }
 }
 
-// KIND:HEX, with all digits of the kind.
-pub(crate) fn put_value(output: &mut Buffer, used: usize, v: Value) -> usize
-    requires { used ≤ 65536 }
-    ensures { result ≤ 65536 }
-{
+// KIND:HEX, with all digits of the kind. The names of kinds are bytes (text::KIND_NAMES), and written letter by letter.
+fn write_value<W: fmt::Write>(f: &mut fmt::Formatter<W>, v: Value) -> fmt::Result {
     let kind = kind_of(v);
-    let named = put(
-        output,
-        used,
-        nth_word(&KIND_NAMES, kind_number(kind) as usize),
-    );
-    let parted = put_byte(output, named, b':');
-    put_hex(output, parted, bits_of(v), digits_of(kind))
+    let name = nth_word(&KIND_NAMES, kind_number(kind) as usize);
+    for letter in name {
+        f.write_char(char::from(*letter))?;
+    }
+    let bits = bits_of(v);
+    let digits = digits_of(kind);
+    write!(f, ":{bits:0digits$x}")
 }
 
-fn put_refusal(output: &mut Buffer, used: usize, f: Refusal) -> usize
-    requires { used ≤ 65536 }
-    ensures { result ≤ 65536 }
-{
-    let begun = put(output, used, b"refused ");
-    let numbered = put_decimal(output, begun, f.number as u64);
-    let parted = put_byte(output, numbered, b' ');
-    put_decimal(output, parted, f.place as u64)
+// The fields that count, joined by commas.
+fn write_record<W: fmt::Write>(f: &mut fmt::Formatter<W>, r: &Record) -> fmt::Result {
+    let count = r.count;
+    for (at, field) in r.fields.iter().take(count).enumerate() {
+        if at > 0 {
+            f.write_char(',')?;
+        }
+        write_value(f, field.value)?;
+    }
+    Ok(())
 }

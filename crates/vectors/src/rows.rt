@@ -1,65 +1,134 @@
-// The three rows that are lent, one for each kind that a row has, so that a conversion has its source in one and its destination in
-// another. A sample goes in and comes out as a value.
+// The rows that are lent: one of samples for each kind that a row has, so that a conversion has its source in one and its destination in
+// another, and two of bytes. A sample goes in and comes out as a value.
 ghost use Rattle.std.specs.Prelude.{◌≤◌, ◌<◌};
+ghost use Rattle.vectors.specs.declared.rows.TheConstants.{MOST_SAMPLES};
 
-use value::{Kind, Value, bits_of, value_of};
+use crate::answers::Fault;
+use crate::lists::{count_in, items_in};
+use crate::operands::with_digits;
+use std::fmt;
+use text::digits_of;
+use value::{Kind, Refusal, Value, bits_of, value_of};
 
-// The most samples that a line may have. Of f32 a line has room for fewer.
-pub(crate) type RowU8 = [u8; 8192];
-
-pub(crate) type RowU16 = [u16; 8192];
-
-pub(crate) type RowF32 = [f32; 8192];
+// The most samples that a line may have, and the length of each row. Of f32 a line has room for fewer.
+const MOST_SAMPLES: usize = 8192;
 
 // The bits that a destination holds before a conversion; a sample has as many of them as its kind.
 const FILLING: u64 = 0xa5a5_a5a5_a5a5_a5a5;
 
-// Puts a sample in the row of its kind; no other kind has a row.
-pub(crate) fn store(v: Value, at: usize, u8s: &mut RowU8, u16s: &mut RowU16, f32s: &mut RowF32)
-    requires { at < 8192 }
-{
-    match v {
-        Value::U8(n) => u8s[at] = n,
-        Value::U16(n) => u16s[at] = n,
-        Value::F32(x, _) => f32s[at] = x,
-        _ => {}
-    }
+#[derive(Drop)]
+pub(crate) struct Rows {
+    pub u8s: [u8; MOST_SAMPLES],
+    pub u16s: [u16; MOST_SAMPLES],
+    pub f32s: [f32; MOST_SAMPLES],
+    pub one: [u8; 512],
+    pub other: [u8; 512],
 }
 
-// A sample of the row of a kind.
-pub(crate) fn sample_at(kind: Kind, at: usize, u8s: &RowU8, u16s: &RowU16, f32s: &RowF32) -> Value
-    requires { at < 8192 }
-{
-    match kind {
-        Kind::U8 => Value::U8(u8s[at]),
-        Kind::U16 => Value::U16(u16s[at]),
-        _ => Value::F32(f32s[at], 0),
-    }
+// The first `count` samples of the row of a kind.
+#[derive(Clone, Copy)]
+pub(crate) struct Part {
+    pub kind: Kind,
+    pub count: usize,
+    ghost in_row: { count ≤ MOST_SAMPLES },
 }
 
-// Puts the filling in the first `count` places of the row of a kind.
-pub(crate) fn fill(kind: Kind, count: usize, u8s: &mut RowU8, u16s: &mut RowU16, f32s: &mut RowF32)
-    requires { count ≤ 8192 }
-{
-    let filling = value_of(kind, FILLING);
-    let mut i = 0;
-    while i < count {
-        store(filling, i, u8s, u16s, f32s);
-        i += 1;
-    }
+// As many samples as a text says.
+pub(crate) fn part_in(kind: Kind, s: &[u8]) -> Option<Part> {
+    let count = count_in(MOST_SAMPLES, s)?;
+    Some(Part { kind, count })
 }
 
-// Whether the filling is still there.
-pub(crate) fn is_filled(kind: Kind, count: usize, u8s: &RowU8, u16s: &RowU16, f32s: &RowF32) -> bool
-    requires { count ≤ 8192 }
-{
-    let filling = bits_of(value_of(kind, FILLING));
-    let mut i = 0;
-    while i < count {
-        if bits_of(sample_at(kind, i, u8s, u16s, f32s)) != filling {
-            return false;
+impl Rows {
+    pub(crate) fn new() -> Self {
+        Rows {
+            u8s: [0; MOST_SAMPLES],
+            u16s: [0; MOST_SAMPLES],
+            f32s: [0.0; MOST_SAMPLES],
+            one: [0; 512],
+            other: [0; 512],
         }
-        i += 1;
     }
-    true
+
+    // Puts the samples of a text, the digits of their kind each, at the front of the row of that kind.
+    pub(crate) fn read(&mut self, kind: Kind, s: &[u8]) -> Option<Part> {
+        let count = items_in(
+            s,
+            MOST_SAMPLES,
+            |at: usize, digits: &[u8]| -> Option<()>
+                requires { at < MOST_SAMPLES }
+            {
+                self.store(with_digits(kind, digits)?, at);
+                Some(())
+            },
+        )?;
+        Some(Part { kind, count })
+    }
+
+    // Puts a sample in the row of its kind; no other kind has a row.
+    fn store(&mut self, v: Value, at: usize)
+        requires { at < MOST_SAMPLES }
+    {
+        match v {
+            Value::U8(n) => self.u8s[at] = n,
+            Value::U16(n) => self.u16s[at] = n,
+            Value::F32(x, _) => self.f32s[at] = x,
+            _ => {}
+        }
+    }
+
+    fn sample_at(&self, kind: Kind, at: usize) -> Value
+        requires { at < MOST_SAMPLES }
+    {
+        match kind {
+            Kind::U8 => Value::U8(self.u8s[at]),
+            Kind::U16 => Value::U16(self.u16s[at]),
+            _ => Value::F32(self.f32s[at], 0),
+        }
+    }
+
+    pub(crate) fn fill(&mut self, part: Part) {
+        let count = part.count;
+        match value_of(part.kind, FILLING) {
+            Value::U8(n) => self.u8s[..count].fill(n),
+            Value::U16(n) => self.u16s[..count].fill(n),
+            Value::F32(x, _) => self.f32s[..count].fill(x),
+            _ => {}
+        }
+    }
+
+    // Whether the filling is still there.
+    fn is_filled(&self, part: Part) -> bool {
+        let filling = bits_of(value_of(part.kind, FILLING));
+        (0..part.count).all(|at| bits_of(self.sample_at(part.kind, at)) == filling)
+    }
+
+    // What the refusal of a call comes to, to which a part was lent that was filled before.
+    pub(crate) fn refused(&self, f: Refusal, lent: Part) -> Fault {
+        if self.is_filled(lent) {
+            Fault::Refused(f)
+        } else {
+            Fault::Changed
+        }
+    }
+
+    // Samples as text: the digits of their kind each, joined by commas, and `-` where there are none.
+    pub(crate) fn write<W: fmt::Write>(
+        &self,
+        f: &mut fmt::Formatter<W>,
+        part: Part,
+    ) -> fmt::Result {
+        if part.count == 0 {
+            return f.write_char('-');
+        }
+        let digits = digits_of(part.kind);
+        for at in 0..part.count {
+            if at > 0 {
+                f.write_char(',')?;
+            }
+            let bits = bits_of(self.sample_at(part.kind, at));
+            write!(f, "{bits:0digits$x}")?;
+        }
+        Ok(())
+    }
 }
