@@ -2,7 +2,7 @@
 ghost use Rattle.std.specs.Prelude.{◌≡◌};
 ghost use Rattle.value.specs.Outcome.{outcome_of};
 ghost use Rattle.row.specs.Row.{rowed_outcome};
-ghost use Rattle.silamogo.specs.Answer.{answered_of, order_number, ordered_of, class_number, classed_of, positioned_of, sampled_of, measured_of};
+ghost use Rattle.silamogo.specs.Answer.{answered_of, ordered_of, classed_of, positioned_of, sampled_of, measured_of};
 
 use crate::{Answer, Classed, Measured, Ordered, Positioned, Sampled};
 use float::{Class, Order};
@@ -22,17 +22,6 @@ impl From<Result<(), Refusal>> for Answer {
     }
 }
 
-fn order_number(o: Order) -> u8
-    ensures { result ≡ order_number o }
-{
-    match o {
-        Order::Less => 0,
-        Order::Equal => 1,
-        Order::Greater => 2,
-        Order::Unordered => 3,
-    }
-}
-
 impl From<Result<Order, Refusal>> for Ordered {
     ghost from_gives = { λ r a. a ≡ ordered_of (outcome_of r) };
 
@@ -41,7 +30,7 @@ impl From<Result<Order, Refusal>> for Ordered {
             Ok(o) => Ordered {
                 number: 0,
                 place: 0,
-                order: order_number(o),
+                order: o as u8,
             },
             Err(Refusal { number, place }) => Ordered {
                 number,
@@ -49,18 +38,6 @@ impl From<Result<Order, Refusal>> for Ordered {
                 order: 0,
             },
         }
-    }
-}
-
-fn class_number(c: Class) -> u8
-    ensures { result ≡ class_number c }
-{
-    match c {
-        Class::Zero => 0,
-        Class::Subnormal => 1,
-        Class::Normal => 2,
-        Class::Infinite => 3,
-        Class::Nan => 4,
     }
 }
 
@@ -72,7 +49,7 @@ impl From<Result<Class, Refusal>> for Classed {
             Ok(c) => Classed {
                 number: 0,
                 place: 0,
-                class: class_number(c),
+                class: c as u8,
             },
             Err(Refusal { number, place }) => Classed {
                 number,

@@ -15,13 +15,10 @@ use value::Refusal;
 fn check_widths(kinds: &[u8], bits: &[u64]) -> Result<(), Refusal>
     ensures { outcome_of result ≡ chain (wide_rule (paired_samples kinds.now bits.now) ∷ []) (gives tt) }
 {
-    let mut fields = kinds.iter().zip(bits);
-    let wide = fields.position(|(kind, bits)| {
-        too_wide(Sample {
-            kind: *kind,
-            bits: *bits,
-        })
-    });
+    let wide = kinds
+        .iter()
+        .zip(bits)
+        .position(|(&kind, &bits)| too_wide(Sample { kind, bits }));
     match wide {
         Some(place) => Err(Refusal { number: 4, place }),
         None => Ok(()),

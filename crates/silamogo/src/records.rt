@@ -31,10 +31,10 @@ fn compared(
 ) -> Result<Order, Refusal>
     ensures { outcome_of result ≡ records_order a_kinds.now a_bits.now b_kinds.now b_bits.now }
 {
-    refuse_if(bad_count(a_kinds.len()) | bad_count(b_kinds.len()), 11)?;
-    refuse_if(any_unnamed(a_kinds) | any_unnamed(b_kinds), 7)?;
+    refuse_if(bad_count(a_kinds.len()) || bad_count(b_kinds.len()), 11)?;
+    refuse_if(any_unnamed(a_kinds) || any_unnamed(b_kinds), 7)?;
     refuse_if(
-        (a_kinds.len() != a_bits.len()) | (b_kinds.len() != b_bits.len()),
+        a_kinds.len() != a_bits.len() || b_kinds.len() != b_bits.len(),
         9,
     )?;
     let a = record_of(a_kinds, a_bits)?;

@@ -4,7 +4,7 @@ ghost use Rattle.value.specs.Kinds.{width_of};
 ghost use Rattle.value.specs.Outcome.{outcome_of, gives};
 ghost use Rattle.value.specs.Rules.{rule, chain};
 ghost use Rattle.silamogo.specs.Samples as spec;
-ghost use Rattle.silamogo.specs.Samples.{any_unnamed, kind_for, too_wide, value_for, any_wide};
+ghost use Rattle.silamogo.specs.Samples.{any_unnamed, kind_for, too_wide, value_for, any_wide, samples_rules};
 
 use crate::Sample;
 use value::{Kind, Refusal, Value};
@@ -19,7 +19,7 @@ fn unnamed(number: u8) -> bool
 pub(crate) fn any_unnamed(numbers: &[u8]) -> bool
     ensures { result ≡ any_unnamed numbers.now }
 {
-    numbers.iter().any(|number| unnamed(*number))
+    numbers.iter().any(|&number| unnamed(number))
 }
 
 #[tactic(auto, unfolding(crate::specs::Samples::kind_for))]
@@ -43,10 +43,10 @@ pub(crate) fn too_wide(s: Sample) -> bool
     highest(kind_for(s.kind)) < s.bits
 }
 
-pub(crate) fn any_wide(samples: &[Sample]) -> bool
+fn any_wide(samples: &[Sample]) -> bool
     ensures { result ≡ any_wide samples.now }
 {
-    samples.iter().any(|s| too_wide(*s))
+    samples.iter().any(|&s| too_wide(s))
 }
 
 #[tactic(auto, unfolding(crate::specs::Samples::value_for))]
@@ -56,7 +56,7 @@ pub(crate) fn value_for(s: Sample) -> Value
     value::value_of(kind_for(s.kind), s.bits)
 }
 
-// A rule of a call, whose place is 0.
+// A rule whose place is 0.
 pub(crate) fn refuse_if(holds: bool, number: u8) -> Result<(), Refusal>
     ensures { outcome_of result ≡ chain (rule number 0 holds ∷ []) (gives tt) }
 {
@@ -64,4 +64,12 @@ pub(crate) fn refuse_if(holds: bool, number: u8) -> Result<(), Refusal>
         return Err(Refusal { number, place: 0 });
     }
     Ok(())
+}
+
+// Rules 7 and 4 of a call on samples, by the numbers of kinds that it was given.
+pub(crate) fn check_samples(numbers: &[u8], samples: &[Sample]) -> Result<(), Refusal>
+    ensures { outcome_of result ≡ chain (samples_rules numbers.now samples.now) (gives tt) }
+{
+    refuse_if(any_unnamed(numbers), 7)?;
+    refuse_if(any_wide(samples), 4)
 }

@@ -6,7 +6,7 @@ ghost use Rattle.silamogo.specs.Answer.{ordered_of, sampled_of};
 ghost use Rattle.silamogo.specs.Samples.{value_for};
 ghost use Rattle.silamogo.specs.Single.{two_rules, compare_of, total_of, min_of, max_of, clamp_of, convert_of};
 
-use crate::samples::{any_unnamed, any_wide, kind_for, refuse_if, value_for};
+use crate::samples::{check_samples, kind_for, value_for};
 use crate::{Ordered, Sample, Sampled};
 use value::{Refusal, Value};
 
@@ -14,8 +14,7 @@ use value::{Refusal, Value};
 fn two_values(a: Sample, b: Sample) -> Result<(Value, Value), Refusal>
     ensures { outcome_of result ≡ chain (two_rules a b) (gives (value_for a, value_for b)) }
 {
-    refuse_if(any_unnamed(&[a.kind, b.kind]), 7)?;
-    refuse_if(any_wide(&[a, b]), 4)?;
+    check_samples(&[a.kind, b.kind], &[a, b])?;
     Ok((value_for(a), value_for(b)))
 }
 
@@ -55,8 +54,7 @@ pub extern "C" fn silamogo_max(a: Sample, b: Sample) -> Sampled
 fn clamped(v: Sample, lower: Sample, upper: Sample) -> Result<Value, Refusal>
     ensures { outcome_of result ≡ clamp_of v lower upper }
 {
-    refuse_if(any_unnamed(&[v.kind, lower.kind, upper.kind]), 7)?;
-    refuse_if(any_wide(&[v, lower, upper]), 4)?;
+    check_samples(&[v.kind, lower.kind, upper.kind], &[v, lower, upper])?;
     choose::clamp(value_for(v), value_for(lower), value_for(upper))
 }
 
@@ -71,8 +69,7 @@ pub extern "C" fn silamogo_clamp(v: Sample, lower: Sample, upper: Sample) -> Sam
 fn converted(v: Sample, to: u8) -> Result<Value, Refusal>
     ensures { outcome_of result ≡ convert_of v to }
 {
-    refuse_if(any_unnamed(&[v.kind, to]), 7)?;
-    refuse_if(any_wide(&[v]), 4)?;
+    check_samples(&[v.kind, to], &[v])?;
     convert::convert(value_for(v), kind_for(to))
 }
 
