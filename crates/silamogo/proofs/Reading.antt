@@ -5,7 +5,7 @@ use Prim.Native.Nat.{ℕ, ◌≤◌}
 use lib.Dec.{eqb}
 use lib.ListN.{length}
 use borrow.Author.Tests.{eqb-true, not-false}
-use Rattle.std.specs.Prelude.{Result, Err, Ok, not}
+use Rattle.std.specs.Prelude.{Result, Ok, not}
 use Rattle.value.specs.declared.Refusal.{Refusal}
 use Rattle.value.specs.Outcome.{Outcome, gives, refuses, outcome_of}
 use Rattle.value.specs.Rules.{chain}

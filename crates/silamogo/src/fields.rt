@@ -8,7 +8,7 @@ ghost use Rattle.silamogo.specs.Records.{paired_samples, record_for, shape_for, 
 
 use crate::Sample;
 use crate::samples::{kind_for, too_wide, value_for};
-use record::{Field, Place, Record, Shape};
+use record::{Record, Shape};
 use value::Refusal;
 
 // Rule 4: no field has bits that its kind doesn't have.
@@ -25,30 +25,19 @@ fn check_widths(kinds: &[u8], bits: &[u64]) -> Result<(), Refusal>
     }
 }
 
-fn record_for(kinds: &[u8], bits: &[u64]) -> Record
-    requires { (length kinds.now ≤ 12) × (length kinds.now ≡ length bits.now) }
-    ensures { result ≡ record_for (paired_samples kinds.now bits.now) }
-{
-    let mut made = record::blank();
-    for at in 0..kinds.len() {
-        let s = Sample {
-            kind: kinds[at],
-            bits: bits[at],
-        };
-        made.fields[at] = Field {
-            value: value_for(s),
-        };
-    }
-    made.count = kinds.len();
-    made
-}
-
+// Rule 4, then the record.
 pub(crate) fn record_of(kinds: &[u8], bits: &[u64]) -> Result<Record, Refusal>
     requires { (length kinds.now ≤ 12) × (length kinds.now ≡ length bits.now) }
     ensures { outcome_of result ≡ chain (wide_rule (paired_samples kinds.now bits.now) ∷ []) (gives (record_for (paired_samples kinds.now bits.now))) }
 {
     check_widths(kinds, bits)?;
-    Ok(record_for(kinds, bits))
+    let mut made = record::blank();
+    for (at, &kind) in kinds.iter().enumerate() {
+        let bits = bits[at];
+        made.fields[at].value = value_for(Sample { kind, bits });
+    }
+    made.count = kinds.len();
+    Ok(made)
 }
 
 pub(crate) fn shape_for(kinds: &[u8]) -> Shape
@@ -56,10 +45,8 @@ pub(crate) fn shape_for(kinds: &[u8]) -> Shape
     ensures { result ≡ shape_for kinds.now }
 {
     let mut made = record::blank_shape();
-    for (at, number) in kinds.iter().enumerate() {
-        made.places[at] = Place {
-            kind: kind_for(*number),
-        };
+    for (at, &number) in kinds.iter().enumerate() {
+        made.places[at].kind = kind_for(number);
     }
     made.count = kinds.len();
     made
@@ -70,8 +57,7 @@ pub(crate) fn put_bits(r: Record, bits: &mut [u64])
     requires { (r.count ≤ 12) × (length bits.old ≡ r.count) }
     ensures { bits.new ≡ map field_bits (fields_of r) }
 {
-    for at in 0..r.count {
-        let f = r.fields[at];
-        bits[at] = value::bits_of(f.value);
+    for (at, place) in bits.iter_mut().enumerate() {
+        *place = value::bits_of(r.fields[at].value);
     }
 }
