@@ -1,18 +1,16 @@
--- Kind numbers and bits, pair by pair.
-use mathlib.Core.Path.{◌≡◌, refl, sym, ◌∙◌, ap}
+-- Kind numbers and bits, pair by pair, and the first pair whose bits its kind does not have.
+use mathlib.Core.Path.{◌≡◌, refl, ap}
 use mathlib.Core.Bool.{Bool, true, false, cond}
 use mathlib.Core.List.{List, [], ◌∷◌, map}
 use Prim.Native.Nat.{ℕ, zero, suc}
 use native.Mathlib.Omega.{arith}
 use lib.Dec.{ltb}
 use lib.ListN.{length, get_or, length-map}
-use Rattle.std.specs.Prelude.{Option, Some, None, Result, Ok}
+use Rattle.std.specs.Prelude.{Option, Some, None}
 use Rattle.std.specs.List.{zip, position_or_len}
 use Rattle.std.proofs.lemmas.List.Recursion.{is_position_or_len}
-use Rattle.value.specs.declared.Refusal.{Refusal}
-use Rattle.value.specs.Outcome.{Outcome, gives, refuses, refuse_if, outcome_of, and_then}
+use Rattle.value.specs.Outcome.{Outcome, gives, refuses, refuse_if}
 use Rattle.value.specs.Rules.{chain}
-use Rattle.value.proofs.Rules.{chain_then}
 use Rattle.silamogo.specs.declared.Sample.{Sample}
 use Rattle.silamogo.specs.Samples.{too_wide, first_wide, wide_rule}
 use Rattle.silamogo.specs.Records.{sample_for, paired_samples}
@@ -63,9 +61,3 @@ pub found_is : (ns bs : List ℕ) {o : Option ℕ}
     → o ≡ cond (ltb (position_or_len wide_in (zip ns bs)) (length (zip ns bs))) (Some (position_or_len wide_in (zip ns bs))) None
     → found_wide o ≡ chain (wide_rule (paired_samples ns bs) ∷ []) (gives tt)
 found_is ns bs q = rw (q, pairs_zipped ns bs, first_position (zip ns bs), length-map (zip ns bs) sample_in) (found_if _ _)
-
--- past the rule, once it was checked
-pub past_widths : {A : Type 0} (ns bs : List ℕ) {r : Result (Unit {0}) Refusal} {next : Outcome A}
-    → outcome_of r ≡ chain (wide_rule (paired_samples ns bs) ∷ []) (gives tt) → r ≡ Ok tt → next ≡ chain (wide_rule (paired_samples ns bs) ∷ []) next
-past_widths ns bs {next} h q =
-    ap (λ o. and_then o (λ u. next)) (sym (ap outcome_of q) ∙ h) ∙ chain_then (λ u. next) (wide_rule (paired_samples ns bs) ∷ []) (gives tt)

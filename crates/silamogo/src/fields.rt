@@ -12,7 +12,7 @@ use record::{Record, Shape};
 use value::Refusal;
 
 // Rule 4: no field has bits that its kind doesn't have.
-fn check_widths(kinds: &[u8], bits: &[u64]) -> Result<(), Refusal>
+pub(crate) fn check_widths(kinds: &[u8], bits: &[u64]) -> Result<(), Refusal>
     ensures { outcome_of result ≡ chain (wide_rule (paired_samples kinds.now bits.now) ∷ []) (gives tt) }
 {
     let wide = kinds
@@ -25,19 +25,17 @@ fn check_widths(kinds: &[u8], bits: &[u64]) -> Result<(), Refusal>
     }
 }
 
-// Rule 4, then the record.
-pub(crate) fn record_of(kinds: &[u8], bits: &[u64]) -> Result<Record, Refusal>
+pub(crate) fn record_for(kinds: &[u8], bits: &[u64]) -> Record
     requires { (length kinds.now ≤ 12) × (length kinds.now ≡ length bits.now) }
-    ensures { outcome_of result ≡ chain (wide_rule (paired_samples kinds.now bits.now) ∷ []) (gives (record_for (paired_samples kinds.now bits.now))) }
+    ensures { result ≡ record_for (paired_samples kinds.now bits.now) }
 {
-    check_widths(kinds, bits)?;
     let mut made = record::blank();
     for (at, &kind) in kinds.iter().enumerate() {
         let bits = bits[at];
         made.fields[at].value = value_for(Sample { kind, bits });
     }
     made.count = kinds.len();
-    Ok(made)
+    made
 }
 
 pub(crate) fn shape_for(kinds: &[u8]) -> Shape

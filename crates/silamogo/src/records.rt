@@ -6,7 +6,7 @@ ghost use Rattle.row.specs.Row.{rowed_outcome};
 ghost use Rattle.silamogo.specs.Answer.{answered_of, ordered_of, measured_of};
 ghost use Rattle.silamogo.specs.Records.{records_order, key_length, key_exit, success_of, room_rules, record_read, read_exit};
 
-use crate::fields::{put_bits, record_of, shape_for};
+use crate::fields::{check_widths, put_bits, record_for, shape_for};
 use crate::samples::{any_unnamed, refuse_if};
 use crate::{Answer, Measured, Ordered};
 use float::Order;
@@ -37,9 +37,9 @@ fn compared(
         a_kinds.len() != a_bits.len() || b_kinds.len() != b_bits.len(),
         9,
     )?;
-    let a = record_of(a_kinds, a_bits)?;
-    let b = record_of(b_kinds, b_bits)?;
-    lexical::compare(a, b)
+    check_widths(a_kinds, a_bits)?;
+    check_widths(b_kinds, b_bits)?;
+    lexical::compare(record_for(a_kinds, a_bits), record_for(b_kinds, b_bits))
 }
 
 #[unsafe(no_mangle)]
@@ -60,8 +60,8 @@ fn written(kinds: &[u8], bits: &[u64], buffer: &mut [u8]) -> Result<usize, Refus
     ensures exit { buffer.new ≡ key_exit kinds.now bits.now buffer.old }
 {
     check_kinds(kinds, bits.len())?;
-    let r = record_of(kinds, bits)?;
-    key::write(r, buffer)
+    check_widths(kinds, bits)?;
+    key::write(record_for(kinds, bits), buffer)
 }
 
 #[unsafe(no_mangle)]
