@@ -2,6 +2,5 @@ pub mod Widths
 pub mod Padding
 pub mod Pairs
 pub mod Filling
-pub mod RecordRules
-pub mod SampleRules
+pub mod Reading
 pub mod Determined

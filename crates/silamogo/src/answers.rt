@@ -1,123 +1,120 @@
 // What the libraries answered, as numbers. RULES.md: The boundary.
 ghost use Rattle.std.specs.Prelude.{◌≡◌};
-ghost use Rattle.value.specs.Outcome.{gives, refuses, outcome_of};
-ghost use Rattle.silamogo.specs.Answer.{answered_of, order_number, ordered_of, class_number, sampled_of, measured_of};
+ghost use Rattle.value.specs.Outcome.{outcome_of};
+ghost use Rattle.row.specs.Row.{rowed_outcome};
+ghost use Rattle.silamogo.specs.Answer.{answered_of, ordered_of, classed_of, positioned_of, sampled_of, measured_of};
 
-use crate::{Answer, Measured, Ordered, Sampled};
+use crate::{Answer, Classed, Measured, Ordered, Positioned, Sampled};
 use float::{Class, Order};
 use value::{Refusal, Value};
 
-pub(crate) fn answer_refused(number: u8, place: usize) -> Answer
-    ensures { result ≡ answered_of (refuses number place) }
-{
-    Answer { number, place }
-}
+impl From<Result<(), Refusal>> for Answer {
+    ghost from_gives = { λ r a. a ≡ answered_of (rowed_outcome r) };
 
-fn order_number(o: Order) -> u8
-    ensures { result ≡ order_number o }
-{
-    match o {
-        Order::Less => 0,
-        Order::Equal => 1,
-        Order::Greater => 2,
-        Order::Unordered => 3,
+    fn from(r: Result<(), Refusal>) -> Answer {
+        match r {
+            Ok(()) => Answer {
+                number: 0,
+                place: 0,
+            },
+            Err(Refusal { number, place }) => Answer { number, place },
+        }
     }
 }
 
-pub(crate) fn order_refused(number: u8, place: usize) -> Ordered
-    ensures { result ≡ ordered_of (refuses number place) }
-{
-    Ordered {
-        number,
-        place,
-        order: 0,
+impl From<Result<Order, Refusal>> for Ordered {
+    ghost from_gives = { λ r a. a ≡ ordered_of (outcome_of r) };
+
+    fn from(r: Result<Order, Refusal>) -> Ordered {
+        match r {
+            Ok(o) => Ordered {
+                number: 0,
+                place: 0,
+                order: o as u8,
+            },
+            Err(Refusal { number, place }) => Ordered {
+                number,
+                place,
+                order: 0,
+            },
+        }
     }
 }
 
-pub(crate) fn ordered_by(c: Result<Order, Refusal>) -> Ordered
-    ensures { result ≡ ordered_of (outcome_of c) }
-{
-    match c {
-        Ok(o) => Ordered {
-            number: 0,
-            place: 0,
-            order: order_number(o),
-        },
-        Err(f) => order_refused(f.number, f.place),
+impl From<Result<Class, Refusal>> for Classed {
+    ghost from_gives = { λ r a. a ≡ classed_of (outcome_of r) };
+
+    fn from(r: Result<Class, Refusal>) -> Classed {
+        match r {
+            Ok(c) => Classed {
+                number: 0,
+                place: 0,
+                class: c as u8,
+            },
+            Err(Refusal { number, place }) => Classed {
+                number,
+                place,
+                class: 0,
+            },
+        }
     }
 }
 
-pub(crate) fn measure_refused(number: u8, place: usize) -> Measured
-    ensures { result ≡ measured_of (refuses number place) }
-{
-    Measured {
-        number,
-        place,
-        length: 0,
+impl From<Result<i64, Refusal>> for Positioned {
+    ghost from_gives = { λ r a. a ≡ positioned_of (outcome_of r) };
+
+    fn from(r: Result<i64, Refusal>) -> Positioned {
+        match r {
+            Ok(position) => Positioned {
+                number: 0,
+                place: 0,
+                position,
+            },
+            Err(Refusal { number, place }) => Positioned {
+                number,
+                place,
+                position: 0,
+            },
+        }
     }
 }
 
-pub(crate) fn measured_by(w: Result<usize, Refusal>) -> Measured
-    ensures { result ≡ measured_of (outcome_of w) }
-{
-    match w {
-        Ok(n) => Measured {
-            number: 0,
-            place: 0,
-            length: n,
-        },
-        Err(f) => measure_refused(f.number, f.place),
+impl From<Result<Value, Refusal>> for Sampled {
+    ghost from_gives = { λ r a. a ≡ sampled_of (outcome_of r) };
+
+    fn from(r: Result<Value, Refusal>) -> Sampled {
+        match r {
+            Ok(v) => Sampled {
+                number: 0,
+                place: 0,
+                kind: value::kind_number(value::kind_of(v)),
+                bits: value::bits_of(v),
+            },
+            Err(Refusal { number, place }) => Sampled {
+                number,
+                place,
+                kind: 0,
+                bits: 0,
+            },
+        }
     }
 }
 
-pub(crate) fn class_number(c: Class) -> u8
-    ensures { result ≡ class_number c }
-{
-    match c {
-        Class::Zero => 0,
-        Class::Subnormal => 1,
-        Class::Normal => 2,
-        Class::Infinite => 3,
-        Class::Nan => 4,
-    }
-}
+impl From<Result<usize, Refusal>> for Measured {
+    ghost from_gives = { λ r a. a ≡ measured_of (outcome_of r) };
 
-fn sampled(v: Value) -> Sampled
-    ensures { result ≡ sampled_of (gives v) }
-{
-    Sampled {
-        number: 0,
-        place: 0,
-        kind: value::kind_number(value::kind_of(v)),
-        bits: value::bits_of(v),
-    }
-}
-
-pub(crate) fn sample_refused(number: u8, place: usize) -> Sampled
-    ensures { result ≡ sampled_of (refuses number place) }
-{
-    Sampled {
-        number,
-        place,
-        kind: 0,
-        bits: 0,
-    }
-}
-
-pub(crate) fn sampled_by(c: Result<Value, Refusal>) -> Sampled
-    ensures { result ≡ sampled_of (outcome_of c) }
-{
-    match c {
-        Ok(v) => sampled(v),
-        Err(f) => sample_refused(f.number, f.place),
-    }
-}
-
-pub(crate) fn sampled_into(c: Result<Value, Refusal>) -> Sampled
-    ensures { result ≡ sampled_of (outcome_of c) }
-{
-    match c {
-        Ok(v) => sampled(v),
-        Err(f) => sample_refused(f.number, f.place),
+    fn from(r: Result<usize, Refusal>) -> Measured {
+        match r {
+            Ok(length) => Measured {
+                number: 0,
+                place: 0,
+                length,
+            },
+            Err(Refusal { number, place }) => Measured {
+                number,
+                place,
+                length: 0,
+            },
+        }
     }
 }

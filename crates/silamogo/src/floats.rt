@@ -1,75 +1,75 @@
 // Patterns of the float kinds: their class, their position. RULES.md: The boundary.
-ghost use Rattle.std.specs.Prelude.{◌≡◌, false};
-ghost use Rattle.float.specs.Format.{class_in, position_in};
+ghost use Rattle.std.specs.Prelude.{◌≡◌};
+ghost use Rattle.value.specs.Outcome.{gives, outcome_of};
+ghost use Rattle.value.specs.Rules.{chain};
 ghost use Rattle.silamogo.specs.Answer.{classed_of, positioned_of};
-ghost use Rattle.silamogo.specs.Samples.{too_wide};
-ghost use Rattle.silamogo.specs.Single.{not_float, of_float, classify_of, sample_position};
+ghost use Rattle.silamogo.specs.Inner.{pattern_in};
+ghost use Rattle.silamogo.specs.Single.{float_rules, of_float, classify_of, sample_position};
 
-use crate::answers::class_number;
-use crate::samples::rule_of_float;
 use crate::{Classed, Positioned, Sample};
 use float::Class;
+use value::{Kind, Refusal};
 
-fn class_of(s: Sample) -> Class
-    requires { (not_float s.kind ≡ false) × (too_wide s ≡ false) }
-    ensures { result ≡ of_float class_in s }
+// The bits of a float kind, in its width.
+#[derive(Clone, Copy)]
+pub(crate) enum Pattern {
+    F16(u16),
+    F32(u32),
+    F64(u64),
+}
+
+// Rule 7 for a kind that is no float, and 4.
+#[tactic(auto, unfolding(crate::specs::Samples::any_wide, crate::specs::Samples::too_wide, crate::specs::Samples::kind_for))]
+fn pattern_of(s: Sample) -> Result<Pattern, Refusal>
+    ensures { outcome_of result ≡ chain (float_rules s) (gives (of_float pattern_in s)) }
 {
-    if s.kind == 8 {
-        float::class_f32(s.bits as u32)
-    } else if s.kind == 9 {
-        float::class_f64(s.bits)
-    } else {
-        float::class_f16(s.bits as u16)
+    let wide = Refusal {
+        number: 4,
+        place: 0,
+    };
+    match value::kind_of_number(s.kind) {
+        Some(Kind::F16) => u16::try_from(s.bits).map(Pattern::F16).map_err(|_| wide),
+        Some(Kind::F32) => u32::try_from(s.bits).map(Pattern::F32).map_err(|_| wide),
+        Some(Kind::F64) => Ok(Pattern::F64(s.bits)),
+        _ => Err(Refusal {
+            number: 7,
+            place: 0,
+        }),
     }
 }
 
-fn position_of(s: Sample) -> i64
-    requires { (not_float s.kind ≡ false) × (too_wide s ≡ false) }
-    ensures { result ≡ of_float position_in s }
+#[tactic(auto, unfolding(crate::specs::Single::classify_of))]
+fn classified(s: Sample) -> Result<Class, Refusal>
+    ensures { outcome_of result ≡ classify_of s }
 {
-    if s.kind == 8 {
-        float::position_f32(s.bits as u32) as i64
-    } else if s.kind == 9 {
-        float::position_f64(s.bits)
-    } else {
-        float::position_f16(s.bits as u16) as i64
-    }
+    Ok(match pattern_of(s)? {
+        Pattern::F16(bits) => float::class_f16(bits),
+        Pattern::F32(bits) => float::class_f32(bits),
+        Pattern::F64(bits) => float::class_f64(bits),
+    })
 }
 
 #[unsafe(no_mangle)]
 pub extern "C" fn silamogo_classify(s: Sample) -> Classed
     ensures { result ≡ classed_of (classify_of s) }
 {
-    let rule = rule_of_float(s);
-    if rule != 0 {
-        return Classed {
-            number: rule,
-            place: 0,
-            class: 0,
-        };
-    }
-    Classed {
-        number: 0,
-        place: 0,
-        class: class_number(class_of(s)),
-    }
+    Classed::from(classified(s))
+}
+
+#[tactic(auto, unfolding(crate::specs::Single::sample_position))]
+fn positioned(s: Sample) -> Result<i64, Refusal>
+    ensures { outcome_of result ≡ sample_position s }
+{
+    Ok(match pattern_of(s)? {
+        Pattern::F16(bits) => i64::from(float::position_f16(bits)),
+        Pattern::F32(bits) => i64::from(float::position_f32(bits)),
+        Pattern::F64(bits) => float::position_f64(bits),
+    })
 }
 
 #[unsafe(no_mangle)]
 pub extern "C" fn silamogo_position(s: Sample) -> Positioned
     ensures { result ≡ positioned_of (sample_position s) }
 {
-    let rule = rule_of_float(s);
-    if rule != 0 {
-        return Positioned {
-            number: rule,
-            place: 0,
-            position: 0,
-        };
-    }
-    Positioned {
-        number: 0,
-        place: 0,
-        position: position_of(s),
-    }
+    Positioned::from(positioned(s))
 }

@@ -1,6 +1,7 @@
 // The boundary: thin functions on numbers and slices, for C, Rust and Python. No call demands anything of its caller.
 // A slice passes as a pointer and a length, a sample as its kind's number and its bits; an answer starts with a number of refusal and a place,
 // 0 and 0 when the call is done (docs/RULES.md: The boundary).
+// Numbers stand for cases, kinds and bits are two slices, and each name is a function of its own: the C interface (crate silamogo_c) holds them so.
 #![tactic(auto)]
 
 mod answers;

@@ -1,14 +1,46 @@
 // Records and their keys. RULES.md: The boundary.
 ghost use Rattle.std.specs.Prelude.{◌≡◌, length};
-ghost use Rattle.value.specs.Outcome.{lent_after};
+ghost use Rattle.value.specs.Outcome.{gives, outcome_of};
+ghost use Rattle.value.specs.Rules.{chain};
+ghost use Rattle.row.specs.Row.{rowed_outcome};
 ghost use Rattle.silamogo.specs.Answer.{answered_of, ordered_of, measured_of};
-ghost use Rattle.silamogo.specs.Records.{records_order, key_length, key_exit, success_of, record_bits, record_read, read_exit};
-ghost use Rattle.silamogo.specs.Inner.{recorded_outcome, Room};
+ghost use Rattle.silamogo.specs.Records.{records_order, key_length, key_exit, success_of, room_rules, record_read, read_exit};
 
-use crate::answers::{answer_refused, measure_refused, measured_by, order_refused, ordered_by};
-use crate::fields::{any_unnamed, first_wide, put_bits, record_for, shape_for};
+use crate::fields::{check_widths, put_bits, record_for, shape_for};
+use crate::samples::{any_unnamed, refuse_if};
 use crate::{Answer, Measured, Ordered};
-use record::{Recorded, bad_count};
+use float::Order;
+use record::bad_count;
+use value::Refusal;
+
+// Rules 11, 7 and 9 of one record, with as many bits.
+fn check_kinds(kinds: &[u8], bits: usize) -> Result<(), Refusal>
+    ensures { outcome_of result ≡ chain (room_rules kinds.now bits) (gives tt) }
+{
+    refuse_if(bad_count(kinds.len()), 11)?;
+    refuse_if(any_unnamed(kinds), 7)?;
+    refuse_if(kinds.len() != bits, 9)
+}
+
+#[tactic(auto, unfolding(crate::specs::Records::records_order))]
+fn compared(
+    a_kinds: &[u8],
+    a_bits: &[u64],
+    b_kinds: &[u8],
+    b_bits: &[u64],
+) -> Result<Order, Refusal>
+    ensures { outcome_of result ≡ records_order a_kinds.now a_bits.now b_kinds.now b_bits.now }
+{
+    refuse_if(bad_count(a_kinds.len()) || bad_count(b_kinds.len()), 11)?;
+    refuse_if(any_unnamed(a_kinds) || any_unnamed(b_kinds), 7)?;
+    refuse_if(
+        a_kinds.len() != a_bits.len() || b_kinds.len() != b_bits.len(),
+        9,
+    )?;
+    check_widths(a_kinds, a_bits)?;
+    check_widths(b_kinds, b_bits)?;
+    lexical::compare(record_for(a_kinds, a_bits), record_for(b_kinds, b_bits))
+}
 
 #[unsafe(no_mangle)]
 pub extern "C" fn silamogo_record_compare(
@@ -19,24 +51,17 @@ pub extern "C" fn silamogo_record_compare(
 ) -> Ordered
     ensures { result ≡ ordered_of (records_order a_kinds.now a_bits.now b_kinds.now b_bits.now) }
 {
-    if bad_count(a_kinds.len()) | bad_count(b_kinds.len()) {
-        return order_refused(11, 0);
-    }
-    if any_unnamed(a_kinds) | any_unnamed(b_kinds) {
-        return order_refused(7, 0);
-    }
-    if (a_kinds.len() != a_bits.len()) | (b_kinds.len() != b_bits.len()) {
-        return order_refused(9, 0);
-    }
-    let i = first_wide(a_kinds, a_bits);
-    if i < a_kinds.len() {
-        return order_refused(4, i);
-    }
-    let j = first_wide(b_kinds, b_bits);
-    if j < b_kinds.len() {
-        return order_refused(4, j);
-    }
-    ordered_by(lexical::compare(record_for(a_kinds, a_bits), record_for(b_kinds, b_bits)))
+    Ordered::from(compared(a_kinds, a_bits, b_kinds, b_bits))
+}
+
+#[tactic(auto, unfolding(crate::specs::Records::key_length, crate::specs::Records::key_exit, key::specs::Key::write_exit))]
+fn written(kinds: &[u8], bits: &[u64], buffer: &mut [u8]) -> Result<usize, Refusal>
+    ensures answer { outcome_of result ≡ key_length kinds.now bits.now (length buffer.old) }
+    ensures exit { buffer.new ≡ key_exit kinds.now bits.now buffer.old }
+{
+    check_kinds(kinds, bits.len())?;
+    check_widths(kinds, bits)?;
+    key::write(record_for(kinds, bits), buffer)
 }
 
 #[unsafe(no_mangle)]
@@ -44,40 +69,19 @@ pub extern "C" fn silamogo_key_write(kinds: &[u8], bits: &[u64], buffer: &mut [u
     ensures answer { result ≡ measured_of (key_length kinds.now bits.now (length buffer.old)) }
     ensures exit { buffer.new ≡ key_exit kinds.now bits.now buffer.old }
 {
-    if bad_count(kinds.len()) {
-        return measure_refused(11, 0);
-    }
-    if any_unnamed(kinds) {
-        return measure_refused(7, 0);
-    }
-    if kinds.len() != bits.len() {
-        return measure_refused(9, 0);
-    }
-    let i = first_wide(kinds, bits);
-    if i < kinds.len() {
-        return measure_refused(4, i);
-    }
-    measured_by(key::write(record_for(kinds, bits), buffer))
+    Measured::from(written(kinds, bits, buffer))
 }
 
-// The bits of a record that was read, or the refusal.
-fn put_read(x: Recorded, bits: &mut [u64]) -> Answer
-    requires { Room (recorded_outcome x) (length bits.old) }
-    ensures answer { result ≡ answered_of (success_of (recorded_outcome x)) }
-    ensures exit { bits.new ≡ lent_after record_bits (recorded_outcome x) bits.old }
+#[tactic(auto, unfolding(crate::specs::Records::record_read, crate::specs::Records::read_exit))]
+fn read(kinds: &[u8], key: &[u8], bits: &mut [u64]) -> Result<(), Refusal>
+    ensures answer { rowed_outcome result ≡ success_of (record_read kinds.now key.now (length bits.old)) }
+    ensures exit { bits.new ≡ read_exit kinds.now key.now bits.old }
 {
-    let outcome = x.outcome;
-    let r = x.record;
-    match outcome {
-        Ok(()) => {
-            put_bits(r, bits);
-            Answer {
-                number: 0,
-                place: 0,
-            }
-        }
-        Err(f) => answer_refused(f.number, f.place),
-    }
+    check_kinds(kinds, bits.len())?;
+    let x = key::read(shape_for(kinds), key);
+    x.outcome?;
+    put_bits(x.record, bits);
+    Ok(())
 }
 
 #[unsafe(no_mangle)]
@@ -85,14 +89,5 @@ pub extern "C" fn silamogo_key_read(kinds: &[u8], key: &[u8], bits: &mut [u64]) 
     ensures answer { result ≡ answered_of (success_of (record_read kinds.now key.now (length bits.old))) }
     ensures exit { bits.new ≡ read_exit kinds.now key.now bits.old }
 {
-    if bad_count(kinds.len()) {
-        return answer_refused(11, 0);
-    }
-    if any_unnamed(kinds) {
-        return answer_refused(7, 0);
-    }
-    if kinds.len() != bits.len() {
-        return answer_refused(9, 0);
-    }
-    put_read(key::read(shape_for(kinds), key), bits)
+    Answer::from(read(kinds, key, bits))
 }

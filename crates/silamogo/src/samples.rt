@@ -1,89 +1,75 @@
 // What the rules before a call's own ask of one sample, and the value that it stands for. RULES.md: The boundary.
-ghost use Rattle.std.specs.Prelude.{[], ◌∷◌, ◌≡◌, ◌-◌, ◌^◌};
+ghost use Rattle.std.specs.Prelude.{◌≡◌, ◌-◌, ◌^◌, [], ◌∷◌};
 ghost use Rattle.value.specs.Kinds.{width_of};
+ghost use Rattle.value.specs.Outcome.{outcome_of, gives};
+ghost use Rattle.value.specs.Rules.{rule, chain};
 ghost use Rattle.silamogo.specs.Samples as spec;
-ghost use Rattle.silamogo.specs.Samples.{any_unnamed, kind_for, too_wide, value_for, any_wide};
-ghost use Rattle.silamogo.specs.Inner.{rule_for};
-ghost use Rattle.silamogo.specs.Single.{not_float};
+ghost use Rattle.silamogo.specs.Samples.{any_unnamed, kind_for, too_wide, value_for, any_wide, samples_rules};
 
 use crate::Sample;
-use value::{Kind, Value};
+use value::{Kind, Refusal, Value};
 
-pub(crate) fn unnamed(number: u8) -> bool
+#[tactic(auto, unfolding(crate::specs::Samples::unnamed))]
+fn unnamed(number: u8) -> bool
     ensures { result ≡ spec.unnamed number }
 {
-    match value::kind_of_number(number) {
-        Some(_) => false,
-        None => true,
-    }
+    value::kind_of_number(number).is_none()
 }
 
+pub(crate) fn any_unnamed(numbers: &[u8]) -> bool
+    ensures { result ≡ any_unnamed numbers.now }
+{
+    numbers.iter().any(|&number| unnamed(number))
+}
+
+#[tactic(auto, unfolding(crate::specs::Samples::kind_for))]
 pub(crate) fn kind_for(number: u8) -> Kind
     ensures { result ≡ kind_for number }
 {
-    match value::kind_of_number(number) {
-        Some(k) => k,
-        None => Kind::U8,
-    }
+    value::kind_of_number(number).unwrap_or(Kind::U8)
 }
 
 // The highest bits of a kind.
 fn highest(k: Kind) -> u64
     ensures { result ≡ 2 ^ width_of k - 1 }
 {
-    0xffff_ffff_ffff_ffff >> (64 - value::width_of(k))
+    u64::MAX >> (64 - value::width_of(k))
 }
 
+#[tactic(auto, using(crate::proofs::Widths::above_highest), unfolding(crate::specs::Samples::too_wide))]
 pub(crate) fn too_wide(s: Sample) -> bool
     ensures { result ≡ too_wide s }
 {
     highest(kind_for(s.kind)) < s.bits
 }
 
+fn any_wide(samples: &[Sample]) -> bool
+    ensures { result ≡ any_wide samples.now }
+{
+    samples.iter().any(|&s| too_wide(s))
+}
+
+#[tactic(auto, unfolding(crate::specs::Samples::value_for))]
 pub(crate) fn value_for(s: Sample) -> Value
     ensures { result ≡ value_for s }
 {
     value::value_of(kind_for(s.kind), s.bits)
 }
 
-// The number of the rule that holds, 0 for none.
-pub(crate) fn rule_for(unnamed: bool, wide: bool) -> u8
-    ensures { result ≡ rule_for unnamed wide }
+// A rule whose place is 0.
+pub(crate) fn refuse_if(holds: bool, number: u8) -> Result<(), Refusal>
+    ensures { outcome_of result ≡ chain (rule number 0 holds ∷ []) (gives tt) }
 {
-    if unnamed {
-        7
-    } else if wide {
-        4
-    } else {
-        0
+    if holds {
+        return Err(Refusal { number, place: 0 });
     }
+    Ok(())
 }
 
-pub(crate) fn rule_of_two(a: Sample, b: Sample) -> u8
-    ensures { result ≡ rule_for (any_unnamed (a.kind ∷ b.kind ∷ [])) (any_wide (a ∷ b ∷ [])) }
+// Rules 7 and 4 of a call on samples, by the numbers of kinds that it was given.
+pub(crate) fn check_samples(numbers: &[u8], samples: &[Sample]) -> Result<(), Refusal>
+    ensures { outcome_of result ≡ chain (samples_rules numbers.now samples.now) (gives tt) }
 {
-    rule_for(unnamed(a.kind) | unnamed(b.kind), too_wide(a) | too_wide(b))
-}
-
-pub(crate) fn rule_of_three(a: Sample, b: Sample, c: Sample) -> u8
-    ensures { result ≡ rule_for (any_unnamed (a.kind ∷ b.kind ∷ c.kind ∷ [])) (any_wide (a ∷ b ∷ c ∷ [])) }
-{
-    rule_for(
-        unnamed(a.kind) | (unnamed(b.kind) | unnamed(c.kind)),
-        too_wide(a) | (too_wide(b) | too_wide(c)),
-    )
-}
-
-// Of a sample and the number of another kind.
-pub(crate) fn rule_of_target(v: Sample, to: u8) -> u8
-    ensures { result ≡ rule_for (any_unnamed (v.kind ∷ to ∷ [])) (any_wide (v ∷ [])) }
-{
-    rule_for(unnamed(v.kind) | unnamed(to), too_wide(v))
-}
-
-// Of a sample that has to be a float.
-pub(crate) fn rule_of_float(s: Sample) -> u8
-    ensures { result ≡ rule_for (not_float s.kind) (any_wide (s ∷ [])) }
-{
-    rule_for((s.kind < 8) | (10 < s.kind), too_wide(s))
+    refuse_if(any_unnamed(numbers), 7)?;
+    refuse_if(any_wide(samples), 4)
 }

@@ -1,10 +1,6 @@
 -- The places are filled one by one.
-use Prim.Native.Nat.{◌-◌}
 use Rattle.silamogo.proofs.Filling.{RecordFilled}
 use Rattle.silamogo.proofs.fields.record_for.Given as goal
 
 abbrev pub invariant-loop-at : goal.invariant-loop-at
-invariant-loop-at l = RecordFilled l.kinds l.bits l.end l.made l.at
-
-abbrev pub decreases-loop-at : goal.decreases-loop-at
-decreases-loop-at l = l.end - l.at
+invariant-loop-at l = RecordFilled l.kinds l.bits l.made l.at
