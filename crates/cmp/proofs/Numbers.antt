@@ -1,9 +1,9 @@
 -- Two values of one kind by the numbers that they stand for: the common unit changes no order.
 use mathlib.Core.Path.{◌≡◌, refl, sym, ◌∙◌}
-use Prim.Native.Nat.{ℕ, ◌^◌, ◌≤◌}
+use Prim.Native.Nat.{ℕ}
 use lib.IntN.{ℤ, pos, negsuc}
-use mir.Syntax.{Width, w64}
-use mir.Val.{SFits, hbits, to_z, of_z}
+use mir.Syntax.{Width}
+use mir.Val.{SFits, to_z, of_z}
 use mir.ValLaws.{to_z-of_z}
 use Rattle.float.specs.declared.Order.{Order}
 use Rattle.float.specs.Format.{Format}
@@ -15,7 +15,6 @@ use Rattle.value.specs.declared.Value.{Value}
 use Rattle.value.specs.declared.Value.TheVariants.{U8, U16, U32, U64, I8, I16, I32, I64, F32, F64, F16}
 use Rattle.value.proofs.Forms.{Whole}
 use Rattle.value.proofs.Units.{unit_pos, step_pos}
-use Rattle.value.proofs.TwosComplement.{wider, recast, recast_back}
 use Rattle.float.proofs.Comparing.{times_order}
 use Rattle.value.specs.Meaning.{whole_of, unit, step_of, exact_of, number_of, position_of}
 
@@ -54,14 +53,7 @@ whole_position (F16 b) t = absurd t
 pub positions_order : (a b : Value) → Whole a → Whole b → order_of (number_of a) (number_of b) ≡ order_z (position_of a) (position_of b)
 positions_order a b s t = cc (whole_position a s, whole_position b t) ∙ sym (integers_order (position_of a) (position_of b))
 
--- ---- two signed numbers, which the machine reads back from their bits at the width 64
+-- ---- two signed numbers, which the machine reads back from their bits
 
-pub wide_order : (y z : ℤ) {o : Order} → SFits w64 y → SFits w64 z → o ≡ order_z (to_z w64 (of_z w64 y)) (to_z w64 (of_z w64 z)) → o ≡ order_z y z
-wide_order y z f g h = h ∙ cc (to_z-of_z w64 y f, to_z-of_z w64 z g)
-
-pub narrow_order : {v : Width} (y z : ℤ) {o : Order} → 2 ^ hbits v ≤ 2 ^ hbits w64 → SFits v y → SFits v z
-    → o ≡ order_z (to_z w64 (of_z w64 (to_z v (of_z v y)))) (to_z w64 (of_z w64 (to_z v (of_z v z)))) → o ≡ order_z y z
-narrow_order y z l f g h = h ∙ cc (recast_back w64 f (wider w64 l f), recast_back w64 g (wider w64 l g))
-
-pub narrow_fits : {v : Width} (z : ℤ) → 2 ^ hbits v ≤ 2 ^ hbits w64 → SFits v z → SFits w64 (to_z v (of_z v z))
-narrow_fits z l f = recast w64 f (wider w64 l f)
+pub held_order : {w : Width} (y z : ℤ) {o : Order} → SFits w y → SFits w z → o ≡ order_z (to_z w (of_z w y)) (to_z w (of_z w z)) → o ≡ order_z y z
+held_order {w} y z f g h = h ∙ cc (to_z-of_z w y f, to_z-of_z w z g)

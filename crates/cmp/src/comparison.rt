@@ -3,7 +3,7 @@ ghost use Rattle.std.specs.Prelude.{◌≡◌};
 ghost use Rattle.value.specs.Outcome.{outcome_of};
 ghost use Rattle.cmp.specs.Compare.{compare_of};
 
-use float::{Order, compare_f16, compare_f32, compare_f64, order_i64, order_u64};
+use float::{Order, order_integers};
 use value::{Refusal, Value, bits_f32, bits_f64};
 
 // Rule 7.
@@ -16,17 +16,17 @@ pub fn compare(a: Value, b: Value) -> Result<Order, Refusal>
     ensures { outcome_of result ≡ compare_of a b }
 {
     match (a, b) {
-        (Value::U8(m), Value::U8(n)) => Ok(order_u64(m as u64, n as u64)),
-        (Value::U16(m), Value::U16(n)) => Ok(order_u64(m as u64, n as u64)),
-        (Value::U32(m), Value::U32(n)) => Ok(order_u64(m as u64, n as u64)),
-        (Value::U64(m), Value::U64(n)) => Ok(order_u64(m, n)),
-        (Value::I8(m), Value::I8(n)) => Ok(order_i64(m as i64, n as i64)),
-        (Value::I16(m), Value::I16(n)) => Ok(order_i64(m as i64, n as i64)),
-        (Value::I32(m), Value::I32(n)) => Ok(order_i64(m as i64, n as i64)),
-        (Value::I64(m), Value::I64(n)) => Ok(order_i64(m, n)),
-        (Value::F32(x, v), Value::F32(y, w)) => Ok(compare_f32(bits_f32(x, v), bits_f32(y, w))),
-        (Value::F64(x, v), Value::F64(y, w)) => Ok(compare_f64(bits_f64(x, v), bits_f64(y, w))),
-        (Value::F16(x), Value::F16(y)) => Ok(compare_f16(x, y)),
+        (Value::U8(m), Value::U8(n)) => Ok(order_integers(m, n)),
+        (Value::U16(m), Value::U16(n)) => Ok(order_integers(m, n)),
+        (Value::U32(m), Value::U32(n)) => Ok(order_integers(m, n)),
+        (Value::U64(m), Value::U64(n)) => Ok(order_integers(m, n)),
+        (Value::I8(m), Value::I8(n)) => Ok(order_integers(m, n)),
+        (Value::I16(m), Value::I16(n)) => Ok(order_integers(m, n)),
+        (Value::I32(m), Value::I32(n)) => Ok(order_integers(m, n)),
+        (Value::I64(m), Value::I64(n)) => Ok(order_integers(m, n)),
+        (Value::F32(x, v), Value::F32(y, w)) => Ok(float::compare(bits_f32(x, v), bits_f32(y, w))),
+        (Value::F64(x, v), Value::F64(y, w)) => Ok(float::compare(bits_f64(x, v), bits_f64(y, w))),
+        (Value::F16(x), Value::F16(y)) => Ok(float::compare(x, y)),
         _ => Err(KINDS_DIFFER),
     }
 }

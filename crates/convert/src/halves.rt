@@ -11,10 +11,10 @@ use value::{Kind, Refusal, Value};
 pub(crate) fn half_to_f32(b: u16) -> Result<Value, Refusal>
     ensures { outcome_of result ≡ into_of Kind.F32 (exact_of (Value.F16 b)) }
 {
-    let a = float::abs_f16(b);
+    let a = float::abs(b);
     if a < 0x0400 {
         let bits = half::small_f32(a);
-        let s = float::is_sign_negative_f16(b);
+        let s = float::is_sign_negative(b);
         Ok(value::f32_value(with_sign(s, bits as u64, 0x8000_0000) as u32))
     } else {
         put(parts_of(Value::F16(b)), Kind::F32)

@@ -62,20 +62,12 @@ pub(crate) fn parts_of(v: Value) -> Parts
         Value::I64(z) => whole_parts(z < 0, z.unsigned_abs()),
         Value::F32(x, word) => {
             let b = value::bits_f32(x, word);
-            float_parts(
-                float::is_sign_negative_f32(b),
-                float::abs_f32(b) as u64,
-                F32,
-            )
+            float_parts(float::is_sign_negative(b), float::abs(b) as u64, F32)
         }
         Value::F64(x, word) => {
             let b = value::bits_f64(x, word);
-            float_parts(float::is_sign_negative_f64(b), float::abs_f64(b), F64)
+            float_parts(float::is_sign_negative(b), float::abs(b), F64)
         }
-        Value::F16(b) => float_parts(
-            float::is_sign_negative_f16(b),
-            float::abs_f16(b) as u64,
-            F16,
-        ),
+        Value::F16(b) => float_parts(float::is_sign_negative(b), float::abs(b) as u64, F16),
     }
 }

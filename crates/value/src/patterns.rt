@@ -12,7 +12,7 @@ pub fn bits_f32(x: f32, word: u32) -> u32
 {
     if !x.is_nan() {
         x.to_bits()
-    } else if float::is_nan_f32(word) {
+    } else if float::is_nan(word) {
         word
     } else {
         0x7fc0_0000
@@ -24,7 +24,7 @@ pub fn bits_f64(x: f64, word: u64) -> u64
 {
     if !x.is_nan() {
         x.to_bits()
-    } else if float::is_nan_f64(word) {
+    } else if float::is_nan(word) {
         word
     } else {
         0x7ff8_0000_0000_0000
@@ -34,7 +34,7 @@ pub fn bits_f64(x: f64, word: u64) -> u64
 pub fn f32_value(bits: u32) -> Value
     ensures { result ≡ f32_value bits }
 {
-    if float::is_nan_f32(bits) {
+    if float::is_nan(bits) {
         Value::F32(f32::NAN, bits)
     } else {
         Value::F32(f32::from_bits(bits), 0)
@@ -44,7 +44,7 @@ pub fn f32_value(bits: u32) -> Value
 pub fn f64_value(bits: u64) -> Value
     ensures { result ≡ f64_value bits }
 {
-    if float::is_nan_f64(bits) {
+    if float::is_nan(bits) {
         Value::F64(f64::NAN, bits)
     } else {
         Value::F64(f64::from_bits(bits), 0)

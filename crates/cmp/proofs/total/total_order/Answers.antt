@@ -1,11 +1,6 @@
 -- Two floats of one kind lie as their positions do; what is left lies as it compares: two integers, or two kinds.
-use mathlib.Core.Path.{◌≡◌, refl, ◌∙◌, ap}
-use borrow.Author.Rules.{rules}
-use lib.Dec.{lit≤}
-use mir.Syntax.{w16, w32}
+use mathlib.Core.Path.{refl, ◌∙◌, ap}
 use Rattle.float.specs.Format.{position_of}
-use Rattle.float.specs.Order.{order_z}
-use Rattle.cmp.proofs.Numbers.{wide_order, narrow_order}
 use Rattle.cmp.proofs.Answers.{both_refused, total_given, total_integers, order_at_lem}
 use Rattle.cmp.proofs.total.total_order.Goals as goal
 use Rattle.cmp.proofs.total.total_order.Goals.{in_default-via-in-F32+in_default, in_default-via-in-F64+in_default, in_default-via-in-F16+in_default}
@@ -13,26 +8,16 @@ use Rattle.cmp.proofs.total.total_order.Goals.{in_default-via-in_default}
 
 pub returns-in-F32-F32 : goal.returns-in-F32-F32
 returns-in-F32-F32 c =
-    let o : c.order_i64.result ≡ order_z c.position_f32-i.result c.position_f32-j.result =
-    narrow_order {v = w32} c.position_f32-i.result c.position_f32-j.result (lit≤ tt) (search rules) (search rules) c.order_i64.ensures in
     total_given c.in-F32-F32.is-0 c.in-F32-F32.is-1 refl
-    (order_at_lem o (c.position_f32-i.ensures ∙ ap (position_of 23 8) c.bits_f32.ensures)
-    (c.position_f32-j.ensures ∙ ap (position_of 23 8) c.bits_f32-in-F32-F32.ensures))
+    (order_at_lem c.by_position.ensures (ap (position_of 23 8) c.bits_f32.ensures) (ap (position_of 23 8) c.bits_f32-in-F32-F32.ensures))
 
 pub returns-in-F64-F64 : goal.returns-in-F64-F64
 returns-in-F64-F64 c =
-    let o : c.order_i64-in-F64-F64.result ≡ order_z c.position_f64-i.result c.position_f64-j.result =
-    wide_order c.position_f64-i.result c.position_f64-j.result (search rules) (search rules) c.order_i64-in-F64-F64.ensures in
     total_given c.in-F64-F64.is-0 c.in-F64-F64.is-1 refl
-    (order_at_lem o (c.position_f64-i.ensures ∙ ap (position_of 52 11) c.bits_f64.ensures)
-    (c.position_f64-j.ensures ∙ ap (position_of 52 11) c.bits_f64-in-F64-F64.ensures))
+    (order_at_lem c.by_position-in-F64-F64.ensures (ap (position_of 52 11) c.bits_f64.ensures) (ap (position_of 52 11) c.bits_f64-in-F64-F64.ensures))
 
 pub returns-in-F16-F16 : goal.returns-in-F16-F16
-returns-in-F16-F16 c =
-    let o : c.order_i64-in-F16-F16.result ≡ order_z c.position_f16-i.result c.position_f16-j.result =
-    narrow_order {v = w16} c.position_f16-i.result c.position_f16-j.result (lit≤ tt) (search rules) (search rules) c.order_i64-in-F16-F16.ensures in
-    total_given c.in-F16-F16.is-0 c.in-F16-F16.is-1 refl
-    (order_at_lem o c.position_f16-i.ensures c.position_f16-j.ensures)
+returns-in-F16-F16 c = total_given c.in-F16-F16.is-0 c.in-F16-F16.is-1 refl c.by_position-in-F16-F16.ensures
 
 pub returns-in_default : goal.returns-in_default
 returns-in_default c =

@@ -16,11 +16,11 @@ use Rattle.convert.proofs.halves.half_to_f32.Goals.{After-small_f32-bits}
 
 over_own : (c : After-small_f32-bits) → IsOver (abs_in f16 c.args.b) c.small_f32-bits.result
 over_own c =
-    let a = c.abs_f16-a.result in
-    subst (λ (n : ℕ). IsOver n c.small_f32-bits.result) (mod-eq_of_lt c.if-a-lt1024.true ∙ c.abs_f16-a.ensures) c.small_f32-bits.ensures
+    let a = c.abs-a.result in
+    subst (λ (n : ℕ). IsOver n c.small_f32-bits.result) (mod-eq_of_lt c.if-a-lt1024.true ∙ c.abs-a.ensures) c.small_f32-bits.ensures
 
 low : (c : After-small_f32-bits) → abs_in f16 c.args.b < 1024
-low c = subst (λ (n : ℕ). n < 1024) c.abs_f16-a.ensures c.if-a-lt1024.true
+low c = subst (λ (n : ℕ). n < 1024) c.abs-a.ensures c.if-a-lt1024.true
 
 pub with_sign-requires : goal.with_sign-requires
 with_sign-requires c =
@@ -32,8 +32,8 @@ with_sign-requires c =
 pub returns-then-a-lt1024 : goal.returns-then-a-lt1024
 returns-then-a-lt1024 c =
     let r = c.small_f32-bits.result in
-    let sign : cond c.is_sign_negative_f16-s.result (0x8000_0000 + r) r ≡ with_sign f32 (negative_in f16 c.args.b) r =
-    ap (λ (t : Bool). cond t (0x8000_0000 + r) r) c.is_sign_negative_f16-s.ensures in
+    let sign : cond c.is_sign_negative-s.result (0x8000_0000 + r) r ≡ with_sign f32 (negative_in f16 c.args.b) r =
+    ap (λ (t : Bool). cond t (0x8000_0000 + r) r) c.is_sign_negative-s.ensures in
     ap gives (c.f32_value.ensures ∙ ap f32_value (c.with_sign.ensures.0 ∙ sign))
     ∙ sym (low_moved c.args.b r (low ((goal.at.returns-then-a-lt1024 c).After-small_f32-bits))
     (over_own ((goal.at.returns-then-a-lt1024 c).After-small_f32-bits)))

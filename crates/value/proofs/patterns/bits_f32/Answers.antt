@@ -8,10 +8,10 @@ use Rattle.value.proofs.patterns.bits_f32.Goals as goal
 pub returns-then-not-is_nan : goal.returns-then-not-is_nan
 returns-then-not-is_nan c = bits_not_nan binary32 _ _ (sym c.is_nan.ensures.value ∙ c.if-not-is_nan.true)
 
-pub returns-then-is_nan_f32 : goal.returns-then-is_nan_f32
-returns-then-is_nan_f32 c =
-    word_nan f32 _ (sym c.if-is_nan_f32.true ∙ c.is_nan_f32.ensures) ∙ bits_nan binary32 _ _ (sym c.is_nan.ensures.value ∙ c.if-not-is_nan.false)
+pub returns-then-is_nan : goal.returns-then-is_nan
+returns-then-is_nan c =
+    word_nan f32 _ (sym c.if-is_nan.true ∙ c.is_nan-else-not-is_nan.ensures) ∙ bits_nan binary32 _ _ (sym c.is_nan.ensures.value ∙ c.if-not-is_nan.false)
 
-pub returns-else-is_nan_f32 : goal.returns-else-is_nan_f32
-returns-else-is_nan_f32 c =
-    word_other f32 _ (sym c.if-is_nan_f32.false ∙ c.is_nan_f32.ensures) ∙ bits_nan binary32 _ _ (sym c.is_nan.ensures.value ∙ c.if-not-is_nan.false)
+pub returns-else-is_nan : goal.returns-else-is_nan
+returns-else-is_nan c =
+    word_other f32 _ (sym c.if-is_nan.false ∙ c.is_nan-else-not-is_nan.ensures) ∙ bits_nan binary32 _ _ (sym c.is_nan.ensures.value ∙ c.if-not-is_nan.false)

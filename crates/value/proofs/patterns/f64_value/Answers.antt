@@ -7,9 +7,9 @@ use Rattle.value.proofs.FloatBits.{from_bits, quiet_made, word_beside}
 use Rattle.value.proofs.patterns.f64_value.Goals as goal
 
 pub float_from_bits-result : goal.float_from_bits-result
-float_from_bits-result c = from_bits binary64 _ (search rules) (sym c.if-is_nan_f64.false ∙ c.is_nan_f64.ensures)
+float_from_bits-result c = from_bits binary64 _ (search rules) (sym c.if-is_nan.false ∙ c.is_nan.ensures)
 
-pub returns-then-is_nan_f64 : goal.returns-then-is_nan_f64
-returns-then-is_nan_f64 c =
-    let h = sym c.if-is_nan_f64.true ∙ c.is_nan_f64.ensures in
+pub returns-then-is_nan : goal.returns-then-is_nan
+returns-then-is_nan c =
+    let h = sym c.if-is_nan.true ∙ c.is_nan.ensures in
     cc (quiet_made binary64 _ (search rules) h, word_beside f64 _ h)
