@@ -1,10 +1,10 @@
 -- What std says of the chains of iterators in `words` is what the definitions say.
 use mathlib.Core.Path.{◌≡◌, refl, sym, ◌∙◌, ap}
-use mathlib.Core.Bool.{Bool, true, false, cond, ◌&&◌, not}
+use mathlib.Core.Bool.{cond, ◌&&◌, not}
 use mathlib.Core.List.{List, [], ◌∷◌}
 use mathlib.Core.Logic.{◌⊎◌, inl, inr}
 use borrow.Author.Tests.{lt-ltb, le-ltb}
-use Prim.Native.Nat.{ℕ, zero, suc, ◌+◌, ◌≤◌, ◌<◌}
+use Prim.Native.Nat.{ℕ, zero, suc, ◌≤◌, ◌<◌}
 use native.Mathlib.Omega.{arith}
 use lib.Dec.{eqb, ltb}
 use lib.ListN.{length, take, length-take}
@@ -65,11 +65,6 @@ pub now_is : {A : Type 0} (r : Option (Bor A)) (d : Bor A) → (unwrap_or r d).n
 now_is None d = refl
 now_is (Some x) d = refl
 
+-- no number is past the list
 pub among_most : (s : List ℕ) (ws : List (List ℕ)) → number_among s ws ≤ length ws
-unfolding number_among
-among_most s [] = omega arith
-among_most s (w ∷ ws) = by_test (same_bytes s w) (among_most s ws)
-  where
-    by_test : (t : Bool) → number_among s ws ≤ length ws → cond t 0 (suc (number_among s ws)) ≤ suc (length ws)
-    by_test true h = omega arith
-    by_test false h = omega arith
+among_most s ws = let h = sym (number_is s ws) ∙ length-take _ ws in omega arith

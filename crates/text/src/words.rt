@@ -1,4 +1,4 @@
-// Words: where a byte stands in a text, the equality of two words, and lists of words that spaces part.
+// Words: where a byte stands in a text, what lies before and behind it, and lists of words that spaces part.
 ghost use Rattle.std.specs.Prelude.{◌≡◌, ◌≤◌, length, take};
 ghost use Rattle.text.specs.Words.{place_of, before_of, after_of, words_of, number_among, nth_of};
 
@@ -15,8 +15,7 @@ pub fn place_of(b: u8, s: &[u8]) -> usize
 pub fn before<'a>(b: u8, s: &'a [u8]) -> &'a [u8]
     ensures { result.now ≡ before_of b s.now }
 {
-    let end = place_of(b, s);
-    &s[..end]
+    &s[..place_of(b, s)]
 }
 
 // What follows the first b, or nothing.

@@ -1,4 +1,5 @@
-use Rattle.std.proofs.Common.{◌≡◌, List, [], ℕ, Bor, length, rules, tests, ◌∙◌, ap}
+-- The parts between spaces are the words.
+use Rattle.std.proofs.Common.{List, [], ℕ, Bor, rules, tests, ◌∙◌, ap}
 use lib.Dec.{eqb}
 use Rattle.std.specs.Option.{unwrap_or}
 use Rattle.std.proofs.lemmas.Iterator.Splits.{YieldsList-from_slice_split}

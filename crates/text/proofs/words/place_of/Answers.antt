@@ -1,4 +1,5 @@
-use Rattle.std.proofs.Common.{◌≡◌, length, rules, tests, ◌∙◌, ap}
+-- The first item at which the closure holds is the first b.
+use Rattle.std.proofs.Common.{length, rules, tests, ◌∙◌, ap}
 use lib.Dec.{eqb}
 use Rattle.std.specs.Option.{unwrap_or}
 use Rattle.std.proofs.lemmas.Iterator.{YieldsList-from_slice}

@@ -1,8 +1,7 @@
-use Rattle.std.proofs.Common.{◌≡◌, length, rules, tests, ◌∙◌, ap}
+-- The parts up to the first that is s are counted.
+use Rattle.std.proofs.Common.{rules, tests, ◌∙◌, ap}
 use mathlib.Core.Bool.{not}
 use lib.Dec.{eqb}
-use lib.ListN.{take}
-use Rattle.std.specs.List.{prefix_len}
 use Rattle.std.specs.Cmp.Lexicographic.{pointwise}
 use Rattle.std.proofs.lemmas.Iterator.Search.{YieldsList-from_take_while}
 use Rattle.std.proofs.lemmas.Iterator.Splits.{YieldsList-from_slice_split}
