@@ -1,5 +1,5 @@
 // The samples in bytes, and the conversion of one as the two things that are asked of each. RULES.md: Migration, Exact conversion.
-ghost use Rattle.std.specs.Prelude.{◌≡◌, ◌/◌, ◌≤◌, ◌<◌, ltb};
+ghost use Rattle.std.specs.Prelude.{◌≡◌};
 ghost use Rattle.sample.specs.Samples.{count_of, sample_at};
 ghost use Rattle.sample.specs.Refusals.{bits_to, is_refused, refusal_number};
 
@@ -14,28 +14,15 @@ pub fn count(k: Kind, src: &[u8]) -> usize
     src.len() / bytes_of(k)
 }
 
-// Whether the sample at an index ends inside n bytes. Only where its end might be no machine number is it asked by a division, which is slow, as
-// checked_mul has one.
-#[tactic(auto, using(crate::proofs::Inside::ends_inside))]
-fn is_inside(n: usize, width: usize, i: usize) -> bool
-    requires { (0 < width) × (width ≤ 8) }
-    ensures { result ≡ ltb i (n / width) }
-{
-    if i < usize::MAX / 8 {
-        (i + 1) * width <= n
-    } else {
-        i < n / width
-    }
-}
-
 // The sample at an index; behind the last one, the kind's value of the bits 0.
+#[inline]
 pub fn sample_at(k: Kind, src: &[u8], i: usize) -> Value
     ensures { result ≡ sample_at k src.now i }
 {
-    let width = bytes_of(k);
-    if !is_inside(src.len(), width, i) {
+    if i >= count(k, src) {
         return value_of(k, 0);
     }
+    let width = bytes_of(k);
     let from = i * width;
     value_of(k, load(&src[from..from + width]))
 }
