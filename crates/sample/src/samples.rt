@@ -1,5 +1,5 @@
 // The samples in bytes, and the conversion of one as the two things that are asked of each. RULES.md: Migration, Exact conversion.
-ghost use Rattle.std.specs.Prelude.{◌≡◌, ◌/◌, ◌≤◌, ◌<◌, ltb};
+ghost use Rattle.std.specs.Prelude.{◌≡◌};
 ghost use Rattle.sample.specs.Samples.{count_of, sample_at};
 ghost use Rattle.sample.specs.Refusals.{bits_to, is_refused, refusal_number};
 
@@ -14,40 +14,29 @@ pub fn count(k: Kind, src: &[u8]) -> usize
     src.len() / bytes_of(k)
 }
 
-// Whether the sample at an index ends inside n bytes. Only for an index whose end might be no machine number is it asked by a division, which is slow.
-fn is_inside(n: usize, width: usize, i: usize) -> bool
-    requires { (0 < width) × (width ≤ 8) }
-    ensures { result ≡ ltb i (n / width) }
-{
-    if i < 0x1fff_ffff_ffff_ffff {
-        (i + 1) * width <= n
-    } else {
-        i < n / width
-    }
-}
-
 // The sample at an index; behind the last one, the kind's value of the bits 0.
+#[inline]
 pub fn sample_at(k: Kind, src: &[u8], i: usize) -> Value
     ensures { result ≡ sample_at k src.now i }
 {
-    let width = bytes_of(k);
-    if is_inside(src.len(), width, i) {
-        return value_of(k, load(src, i * width, width));
+    if i >= count(k, src) {
+        return value_of(k, 0);
     }
-    value_of(k, 0)
+    let width = bytes_of(k);
+    let from = i * width;
+    value_of(k, load(&src[from..from + width]))
 }
 
 // Whether the conversion of a sample is refused.
+#[tactic(auto, using(crate::proofs::Refusals::refused_told))]
 pub fn is_refused(v: Value, to: Kind) -> bool
     ensures { result ≡ is_refused (bits_to to v) }
 {
-    match convert(v, to) {
-        Ok(_) => false,
-        Err(_) => true,
-    }
+    convert(v, to).is_err()
 }
 
-// The number of the refusal; 0 where there is none.
+// The number of the refusal. A public call keeps its type, so 0 stands for none.
+#[tactic(auto, using(crate::proofs::Refusals::sample_given, crate::proofs::Refusals::sample_refused))]
 pub fn number_of(v: Value, to: Kind) -> u8
     ensures { result ≡ refusal_number (bits_to to v) }
 {

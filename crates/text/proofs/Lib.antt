@@ -1,5 +1,3 @@
 pub mod Numbers
-pub mod Places
-pub mod Sameness
-pub mod Lists
+pub mod Chains
 pub mod RoundTrips

@@ -1,29 +1,25 @@
--- The bytes from `left` on are gathered, and make a number below 256 to their count.
-use native.Mathlib.Omega.{arith}
-use Rattle.sample.proofs.Gathering.{gather_none, gather_room, gather_step}
+-- The bytes taken so far, from the high one down, make the number.
+use Rattle.std.proofs.Common.{◌≡◌, ◌<◌, ◌^◌, arith, rules}
+use Rattle.sample.proofs.Gathering.{gather_none, gather_more, gather_room, gather_end}
 use Rattle.sample.proofs.bytes.load.Goals as goal
+use Rattle.sample.proofs.bytes.load.Goals.{In-Some}
 
-pub loop-left-init : goal.loop-left-init
-loop-left-init c = gather_none c.args.src.now c.args.from c.args.width c.requires.1
+pub loop-x-init : goal.loop-x-init
+loop-x-init c =
+    let e : c.into_iter-x-iterator.result.iter.rest.now ≡ c.args.bytes.now = search rules in
+    (tt, tt, rw e (gather_none c.args.bytes.now))
+
+room : (c : In-Some) → c.loop-x.n < 256 ^ 7
+room c = gather_room _ c.loop-x.invariant.2 _ _ c.in-Some.ensures.steps c.requires
 
 pub overflow_mul-n : goal.overflow_mul-n
-overflow_mul-n c =
-    record {
-      fits = omega (
-        arith,
-        gather_room c.args.src.now c.args.from c.args.width c.loop-left.n c.loop-left.left 0
-            c.loop-left.invariant c.loop-left-test.true (omega arith) c.requires.0,
-      );
-    }
+overflow_mul-n c = let r = room c in record { fits = omega arith }
 
 pub overflow_add-n : goal.overflow_add-n
-overflow_add-n c =
-    record {
-      fits = gather_room c.args.src.now c.args.from c.args.width c.loop-left.n c.loop-left.left
-          c.wide.result c.loop-left.invariant c.loop-left-test.true c.wide.ensures.1 c.requires.0;
-    }
+overflow_add-n c = let r = room ((goal.at.overflow_add-n c).In-Some) in record { fits = omega arith }
 
-pub loop-left-preserved : goal.loop-left-preserved
-loop-left-preserved c =
-    gather_step c.args.src.now c.args.from c.args.width c.loop-left.n c.loop-left.left c.wide.result
-    c.loop-left.invariant c.loop-left-test.true c.wide.ensures.1 c.requires.1 c.wide.ensures.0
+pub loop-x-preserved : goal.loop-x-preserved
+loop-x-preserved c = (tt, tt, gather_more _ c.loop-x.invariant.2 c.in-Some.ensures.steps (omega arith))
+
+pub returns : goal.returns
+returns c = gather_end _ c.loop-x.invariant.2 c.in-None.ensures.steps.0

@@ -1,9 +1,7 @@
--- The bytes from `left` on are gathered, and make a number below 256 to their count.
+-- The bytes taken so far, from the high one down, make the number.
 use Rattle.sample.proofs.Gathering.{Gathered}
 use Rattle.sample.proofs.bytes.load.Given as goal
 
-abbrev pub invariant-loop-left : goal.invariant-loop-left
-invariant-loop-left l = Gathered l.src l.from l.width l.n l.left
-
-abbrev pub decreases-loop-left : goal.decreases-loop-left
-decreases-loop-left l = l.left
+abbrev pub invariant-loop-x : goal.invariant-loop-x
+invariant-loop-x l =
+    (goal.iterator-loop-x).can_next l.x-iterator × (goal.iterator-loop-x).is_finite l.x-iterator × Gathered l.bytes l.x-iterator.iter.rest.now l.n

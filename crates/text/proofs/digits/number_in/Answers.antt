@@ -1,39 +1,20 @@
--- The loop keeps the number read so far and what is left: together they give the whole. A digit is added where the test leaves room for it.
-use Rattle.std.specs.Prelude.{Some}
-use Prim.Native.Nat.{◌+◌, ◌*◌, ◌^◌, ◌<◌}
-use mathlib.Core.Path.{◌≡◌, sym, ◌∙◌}
-use native.Mathlib.Omega.{arith}
-use borrow.Author.Rules.{rules}
-use lib.ListN.{get_or}
-use Rattle.text.specs.Digits.{digit_in}
-use Rattle.text.proofs.Numbers.{digit_small, number_ends, number_stops, number_large, number_more, no_room, room}
+-- The loop keeps the number read so far and what is left: together they give the whole.
+use Rattle.std.proofs.Common.{◌∙◌, sym}
+use Rattle.text.proofs.Numbers.{number_ends, number_stops, number_large, number_more}
 use Rattle.text.proofs.digits.number_in.Goals as goal
-use Rattle.text.proofs.digits.number_in.Goals.{In-Some}
 
-pub returns-in_default : goal.returns-in_default
-returns-in_default c =
-    sym (sym c.loop-i.invariant.1 ∙ number_stops _ _ _ _ c.loop-i-test.true (sym c.digit_in.ensures ∙ c.in_default.is))
+pub returns-in_err-digit_in : goal.returns-in_err-digit_in
+returns-in_err-digit_in c =
+    c.from_residual.ensures ∙ number_stops _ _ _ _ c.loop-b.invariant c.loop-b-test.true (sym c.in_err-digit_in.was ∙ c.digit_in.ensures)
 
-digit_read : (c : In-Some) → digit_in c.args.base (get_or c.args.s.now c.loop-i.i 0) ≡ Some c.in-Some.d
-digit_read c = sym c.digit_in.ensures ∙ c.in-Some.is
+pub returns-in_err-n : goal.returns-in_err-n
+returns-in_err-n c =
+    c.from_residual-in_err-n.ensures
+    ∙ number_large _ _ _ _ c.loop-b.invariant _ c.loop-b-test.true (sym c.in_ok-digit_in.was ∙ c.digit_in.ensures) c.in_err-n.ensures
 
-small : (c : In-Some) → c.in-Some.d < c.args.base
-small c = digit_small _ _ (digit_read c)
-
-pub nonzero_div-d : goal.nonzero_div-d
-nonzero_div-d c = let h = small c in omega arith
-
-pub returns-then-d-base : goal.returns-then-d-base
-returns-then-d-base c =
-    let here = (goal.at.returns-then-d-base c).In-Some in
-    sym (sym c.loop-i.invariant.1
-    ∙ number_large _ _ _ _ _ c.loop-i-test.true (digit_read here) (no_room _ _ _ (small here) c.if-d-base.true))
-
-pub loop-i-preserved : goal.loop-i-preserved
-loop-i-preserved c =
-    let here = (goal.at.loop-i-preserved c).In-Some in
-    let held : c.loop-i.n * c.args.base + c.in-Some.d < 2 ^ 64 = room _ _ _ (small here) (search rules) c.if-d-base.false in
-    (search rules, sym (number_more _ _ _ _ _ c.loop-i-test.true (digit_read here) held) ∙ c.loop-i.invariant.1)
+pub loop-b-preserved : goal.loop-b-preserved
+loop-b-preserved c =
+    number_more _ _ _ _ c.loop-b.invariant _ c.loop-b-test.true (sym c.in_ok-digit_in.was ∙ c.digit_in.ensures) c.in_ok-n.ensures
 
 pub returns : goal.returns
-returns c = sym (sym c.loop-i.invariant.1 ∙ number_ends _ _ _ _ c.loop-i-test.false)
+returns c = number_ends _ _ _ _ c.loop-b.invariant c.loop-b-test.false

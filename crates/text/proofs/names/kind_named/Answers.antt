@@ -5,7 +5,7 @@ use native.Mathlib.Omega.{arith}
 use Rattle.value.specs.Kinds.{kind_at}
 use Rattle.text.specs.Words.{words_of}
 use Rattle.text.specs.Names.{kind_named}
-use Rattle.text.proofs.Lists.{among_most}
+use Rattle.text.proofs.Chains.{among_most}
 use Rattle.text.proofs.names.kind_named.Goals as goal
 use Rattle.text.proofs.names.kind_named.Goals.{After-word_number}
 

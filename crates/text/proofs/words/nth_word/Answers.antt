@@ -1,18 +1,19 @@
--- The loop keeps that the word sought is word `left` of the rest of the list.
-use mathlib.Core.Path.{sym, ◌∙◌}
-use borrow.Author.Rules.{rules}
-use Rattle.text.proofs.Lists.{nth_found, nth_missing, nth_next}
+-- The parts between spaces are the words.
+use Rattle.std.proofs.Common.{List, [], ℕ, Bor, rules, tests, ◌∙◌, ap}
+use lib.Dec.{eqb}
+use Rattle.std.specs.Option.{unwrap_or}
+use Rattle.std.proofs.lemmas.Iterator.Splits.{YieldsList-from_slice_split}
+use Rattle.std.proofs.lemmas.Iterator.Consumers.{nth_from_yields_List}
+use Rattle.text.proofs.Chains.{words_is, nth_is, now_is}
+use Rattle.text.specs.Words.{nth_of}
 use Rattle.text.proofs.words.nth_word.Goals as goal
-
-pub returns-then-end-rest : goal.returns-then-end-rest
-returns-then-end-rest c =
-    nth_missing _ _ c.place_of-end.ensures.place _ c.loop-left-test.true c.if-end-rest.true ∙ sym c.loop-left.invariant.0
-
-pub loop-left-preserved : goal.loop-left-preserved
-loop-left-preserved c =
-    let next = nth_next _ _ c.place_of-end.ensures.place _ c.loop-left-test.true c.place_of-end.ensures.in_bounds c.if-end-rest.false in
-    (c.loop-left.invariant.0 ∙ next, search rules)
 
 pub returns : goal.returns
 returns c =
-    nth_found _ _ c.place_of-end-2.ensures.place _ c.loop-left-test.false ∙ sym c.loop-left.invariant.0
+    ap (λ (x : Bor (List ℕ)). x.now) c.unwrap_or.ensures
+    ∙ now_is c.nth.result _
+    ∙ ap (λ r. unwrap_or r [])
+    (nth_from_yields_List _ _ c.args.n c.nth.ensures.ran
+    (YieldsList-from_slice_split _ (λ b. eqb b 32) c.args.words.now c.split.ensures.rest c.split.ensures.done c.split.ensures.closure
+    (λ x b q k. search (rules, tests))))
+    ∙ nth_is c.args.n _ ∙ ap (nth_of c.args.n) (words_is c.args.words.now)
