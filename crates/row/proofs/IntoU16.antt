@@ -5,8 +5,8 @@ use mathlib.Core.List.{List, map}
 use Prim.Native.Nat.{ℕ, ◌*◌, ◌^◌, ◌≤◌, ◌<◌}
 use native.Mathlib.Nat.{zero-mul}
 use native.Mathlib.Omega.{arith}
-use borrow.Author.Tests.{le-ltb, ltb-false, eq-eqb, eqb-true}
-use lib.Dec.{T, ltb, le→leb, lit≤}
+use borrow.Author.Tests.{le-ltb, ltb-true, ltb-false, eq-eqb, eqb-true, eqb-false, leb-true, leb-false}
+use lib.Dec.{T, ltb, leb, eqb, le→leb, lit≤}
 use lib.IntN.{pos}
 use lib.ListN.{length, get_or}
 use lib.Pow.{pow_pos}
@@ -27,7 +27,7 @@ use Rattle.convert.specs.Convert.{is_minus_zero, outside}
 use Rattle.convert.proofs.MinusZero.{minus_zero_float}
 use Rattle.row.specs.Row.{first}
 use Rattle.row.specs.Convert.{f32_to_u16}
-use Rattle.row.specs.Inner.{is_whole, is_misfit, as_f32, as_u16}
+use Rattle.row.specs.Inner.{is_refused, is_whole, is_misfit, as_f32, as_u16}
 use Rattle.row.proofs.ConvertRow.{Answers, convert_refused, convert_done}
 use Rattle.row.proofs.FloatValue.{pattern_value, bits_value, over_one}
 use Rattle.row.proofs.IntoF32.{cast_value}
@@ -140,12 +140,38 @@ module _ (x : Float) (hx : T (fits binary32 x)) where
         refused_fraction h = fraction_refused x (negative_of 23 8 (to_bits binary32 x)) (mag_of 23 abs) own_exact
             (λ n w. true≢false (sym (small_passes abs small n w) ∙ h))
 
--- ---- a row of f32 to u16
+  -- ---- the test tells the refused
 
-module _ (src : List Float) (dst : List ℕ) (same : length src ≡ length dst)
-    (all : (i : ℕ) → i < length src → T (fits binary32 (get_or src i nan))) (at : ℕ) (at-is : at ≡ first is_misfit src) where
-  pub whole_row_refused : at < length src → (m : ℕ) → f32_to_u16 (get_or src at nan) ≡ refuses m 0 → Answers f32_to_u16 src dst (refuses m at) dst
-  whole_row_refused l m = convert_refused f32_to_u16 src dst is_misfit as_u16 (λ x. T (fits binary32 x)) nan fit_given same all at at-is l m 0
+  misfit_refused : is_misfit x ≡ true → is_refused (f32_to_u16 x) ≡ true
+  misfit_refused h = beyond (ltb 0x7f80_0000 abs) refl
+    where
+      abs : ℕ
+      abs = abs_of 23 8 (to_bits binary32 x)
 
-  pub whole_row_done : (now : List ℕ) → length src ≤ at → now ≡ map as_u16 src → Answers f32_to_u16 src dst (gives done) now
-  whole_row_done = convert_done f32_to_u16 src dst is_misfit as_u16 (λ x. T (fits binary32 x)) nan fit_given same all at at-is
+      small : (to_bits binary32 x ≡ 0x8000_0000 → ⊥) → abs < 0x7f80_0000 → abs < 0x4b00_0000 → (w : Bool) → is_whole (of_bits binary32 abs) ≡ w
+          → is_refused (f32_to_u16 x) ≡ true
+      small o l m true q = ap is_refused (refused_whole h o abs refl l m q)
+      small o l m false q = ap is_refused (refused_fraction h o abs refl l m q)
+
+      other : (to_bits binary32 x ≡ 0x8000_0000 → ⊥) → abs < 0x7f80_0000 → (t : Bool) → leb 0x4b00_0000 abs ≡ t → is_refused (f32_to_u16 x) ≡ true
+      other o l true q = ap is_refused (refused_large h o abs refl l (leb-true _ _ q))
+      other o l false q = small o l (leb-false _ _ q) (is_whole (of_bits binary32 abs)) refl
+
+      zero : abs < 0x7f80_0000 → (t : Bool) → eqb (to_bits binary32 x) 0x8000_0000 ≡ t → is_refused (f32_to_u16 x) ≡ true
+      zero l true q = ap is_refused (refused_minus_zero (eqb-true _ _ q))
+      zero l false q = other (eqb-false _ _ q) l (leb 0x4b00_0000 abs) refl
+
+      infinity : abs ≤ 0x7f80_0000 → (t : Bool) → eqb abs 0x7f80_0000 ≡ t → is_refused (f32_to_u16 x) ≡ true
+      infinity l true q = ap is_refused (refused_infinity abs refl (eqb-true _ _ q))
+      infinity l false q = let n = eqb-false _ _ q in zero (omega arith) (eqb (to_bits binary32 x) 0x8000_0000) refl
+
+      beyond : (t : Bool) → ltb 0x7f80_0000 abs ≡ t → is_refused (f32_to_u16 x) ≡ true
+      beyond true q = ap is_refused (refused_nan abs refl (ltb-true _ _ q))
+      beyond false q = infinity (ltb-false _ _ q) (eqb abs 0x7f80_0000) refl
+
+  pub refused_misfit : is_refused (f32_to_u16 x) ≡ is_misfit x
+  refused_misfit = go (is_misfit x) refl
+    where
+      go : (t : Bool) → is_misfit x ≡ t → is_refused (f32_to_u16 x) ≡ is_misfit x
+      go true h = misfit_refused h ∙ sym h
+      go false h = ap is_refused (fit_given h) ∙ sym h

@@ -71,11 +71,11 @@ pub u8_wider : (n : ℕ) → n < 2 ^ 8 → u8_to_u16 n ≡ gives n
 unfolding u8_to_u16 convert_of into_of
 u8_wider n h = into_inside kind.U16 16 refl n u16_made (le-ltb (2 ^ 16 - 1) n (omega arith))
 
-u16_narrower : (n : ℕ) → is_wide n ≡ false → u16_to_u8 n ≡ gives n
+pub u16_narrower : (n : ℕ) → is_wide n ≡ false → u16_to_u8 n ≡ gives n
 unfolding u16_to_u8 convert_of into_of
 u16_narrower n h = into_inside kind.U8 8 refl n u8_made h
 
-u16_wide : (n : ℕ) → is_wide n ≡ true → u16_to_u8 n ≡ refuses 4 0
+pub u16_wide : (n : ℕ) → is_wide n ≡ true → u16_to_u8 n ≡ refuses 4 0
 unfolding u16_to_u8 convert_of into_of
 u16_wide n h = ap (mapped bits_of) (into_outside kind.U8 8 refl n false h)
 

@@ -8,6 +8,10 @@ use native.Mathlib.Numerals.{add-one}
 use native.Mathlib.Omega.{arith}
 use lib.ListN.{length, get_or, take, drop, drop_of_length-le, length-drop}
 use lib.Seq.{take_all, drop-drop}
+use Rattle.std.specs.List.{list_any, position_or_len}
+
+
+
 use Rattle.float.proofs.Tests.{neither}
 use Rattle.row.specs.Row.{first, any}
 
@@ -135,3 +139,14 @@ pub first_never : {A : Type 0} (s : List A) → first (λ x. false) s ≡ length
 unfolding first
 first_never [] = refl
 first_never (x ∷ xs) = ap suc (first_never xs)
+
+-- a block in which no sample passes is passed whole
+pub passed_block : {A : Type 0} (test : A → Bool) (m : ℕ) (s : List A) → m ≤ length s → list_any test (take m s) ≡ false
+    → position_or_len test s ≡ m + position_or_len test (drop m s)
+passed_block test zero s h g = sym (zero-add (position_or_len test s))
+passed_block test (suc m) [] h g = absurd (not-suc-le-zero h)
+passed_block test (suc m) (x ∷ xs) h g =
+    let o = neither (test x) (list_any test (take m xs)) g in
+    let r = passed_block test m xs (le_of_suc-le-suc h) o.1 in
+    simp o.0 (omega arith)
+
