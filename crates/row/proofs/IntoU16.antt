@@ -28,7 +28,6 @@ use Rattle.convert.proofs.MinusZero.{minus_zero_float}
 use Rattle.row.specs.Row.{first}
 use Rattle.row.specs.Convert.{f32_to_u16}
 use Rattle.row.specs.Inner.{is_refused, is_whole, is_misfit, as_f32, as_u16}
-use Rattle.row.proofs.ConvertRow.{Answers, convert_refused, convert_done}
 use Rattle.row.proofs.FloatValue.{pattern_value, bits_value, over_one}
 use Rattle.row.proofs.IntoF32.{cast_value}
 use Rattle.row.proofs.WholeFloats.{whole_found, whole_passes, large_whole, below_large}

@@ -25,7 +25,6 @@ use Rattle.row.specs.Row.{first}
 use Rattle.row.specs.Convert.{u8_to_u16, u16_to_u8}
 use Rattle.row.specs.Inner.{is_wide}
 use Rattle.row.proofs.Scan.{first_hit}
-use Rattle.row.proofs.ConvertRow.{Answers, convert_refused, convert_done}
 
 -- ---- a kind whose values are numbers of k bits
 
@@ -86,13 +85,3 @@ narrow_small n b q = go (is_wide n) refl
     go : (t : Bool) → is_wide n ≡ t → b < 2 ^ 8
     go true h = clash (let k = sym (u16_wide n h) ∙ q in cc)
     go false h = let k : n ≡ b = cc (sym (u16_narrower n h) ∙ q) in let l = ltb-false 255 n h in omega arith
-
--- ---- a row of u16 to u8
-
-module _ (src dst : List ℕ) (same : length src ≡ length dst) (at : ℕ) (at-is : at ≡ first is_wide src) where
-  pub narrow_refused : at < length src → Answers u16_to_u8 src dst (refuses 4 at) dst
-  narrow_refused l = convert_refused u16_to_u8 src dst is_wide (λ n. n) (λ n. Unit {0}) 0 (λ n t. u16_narrower n) same (λ i h. tt) at
-      at-is l 4 0 (u16_wide (get_or src at 0) (first_hit is_wide src at 0 at-is l))
-
-  pub narrow_done : (now : List ℕ) → length src ≤ at → now ≡ map (λ (n : ℕ). n) src → Answers u16_to_u8 src dst (gives done) now
-  narrow_done = convert_done u16_to_u8 src dst is_wide (λ n. n) (λ n. Unit {0}) 0 (λ n t. u16_narrower n) same (λ i h. tt) at at-is

@@ -12,4 +12,3 @@ pub mod WholeFloats
 pub mod F32Sample
 pub mod Misfits
 pub mod IntoU16
-pub mod Refusals

@@ -23,7 +23,7 @@ pub(crate) trait Conversion: Test {
         requires { Self.test x ≡ false }
         ensures { conversion x ≡ gives result };
 
-    ghost told: { (x : Self.Sample) → Self.test x ≡ is_refused (conversion x) };
+    ghost told: { (x : Self.Sample) → is_refused (conversion x) ≡ Self.test x };
 }
 
 pub(crate) fn convert<C: Conversion>(src: &[C::Sample], dst: &mut [C::To]) -> Result<(), Refusal>

@@ -1,7 +1,7 @@
 -- Lengths that differ, the first sample that is refused, or each sample converted.
-use Rattle.std.proofs.Common.{rules, ◌≡◌, ◌∙◌, ap, true, false, arith}
-use Rattle.row.proofs.ConvertRow.{lengths_differ_lem}
-use Rattle.row.proofs.Refusals.{found_passes, none_passes, sample_decides, all_converted}
+use Rattle.std.proofs.Common.{rules, ◌∙◌, sym, ap, arith, get_or}
+use Rattle.row.proofs.Scan.{found_passes, none_passes}
+use Rattle.row.proofs.ConvertRow.{lengths_differ_lem, sample_decides_row, all_converted}
 use Rattle.row.proofs.conversion.convert.Goals as goal
 
 pub returns-then-src-dst : goal.returns-then-src-dst
@@ -11,19 +11,20 @@ returns-then-src-dst g c =
 
 pub number-requires : goal.number-requires
 number-requires g c =
-    let x = c.index-src-place.result in
-    ap g.C.Test.test c.index-src-place.is ∙ found_passes g.C.Test.test c.args.src.now c.in-Some.place x (search rules)
+    ap g.C.Test.test c.index-src-place.is ∙ found_passes g.C.Test.test c.args.src.now c.in-Some.place c.index-src-place.result (search rules)
 
 pub returns-in-Some : goal.returns-in-Some
 returns-in-Some g c =
-    let both = sample_decides g.C.Conversion.conversion c.args.src.now c.args.dst.now c.if-src-dst.false g.C.Test.test g.met.C.Conversion.told
-        c.in-Some.place c.number.result c.index-src-place.result (search rules) c.index-src-place.is c.number.ensures in
+    let x = c.index-src-place.result in
+    let src = c.args.src.now in
+    let conversion = g.C.Conversion.conversion in
+    let both = sample_decides_row conversion src c.args.dst.now c.if-src-dst.false g.C.Test.test c.in-Some.place c.number.result x
+        (λ k l. g.met.C.Conversion.told (get_or src k x)) (search rules) (ap conversion (sym c.index-src-place.is) ∙ c.number.ensures) in
     record { answer = both.0; exit = both.1 }
 
 pub converted-requires : goal.converted-requires
 converted-requires g c =
-    let x = c.index-src-i.result in
-    ap g.C.Test.test c.index-src-i.is ∙ none_passes g.C.Test.test c.args.src.now c.loop-i.i x (search rules) (omega arith)
+    ap g.C.Test.test c.index-src-i.is ∙ none_passes g.C.Test.test c.args.src.now c.loop-i.i c.index-src-i.result (search rules) (omega arith)
 
 pub returns : goal.returns
 returns g c =
