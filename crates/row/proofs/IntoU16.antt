@@ -174,3 +174,10 @@ module _ (x : Float) (hx : T (fits binary32 x)) where
       go : (t : Bool) → is_misfit x ≡ t → is_refused (f32_to_u16 x) ≡ is_misfit x
       go true h = misfit_refused h ∙ sym h
       go false h = ap is_refused (fit_given h) ∙ sym h
+
+  -- what isn't refused is cast
+  pub kept_casts : is_refused (f32_to_u16 x) ≡ false → T (in_unsigned binary32 16 x)
+  kept_casts h = fit_casts (sym refused_misfit ∙ h)
+
+  pub kept_given : is_refused (f32_to_u16 x) ≡ false → f32_to_u16 x ≡ gives (as_u16 x)
+  kept_given h = fit_given (sym refused_misfit ∙ h)

@@ -96,8 +96,8 @@ module _ {A B : Type 0} (conv : A → Outcome B) where
       ap (λ o. sample_then at o (row_answer conv (suc at) xs)) bad ∙ ap (λ (k : ℕ). refuses m k) (omega arith)
   first_refused m at (suc i) (x ∷ xs) d h before bad =
       given_passes at (conv x) (row_answer conv (suc at) xs) (before 0 (omega arith))
-          ∙ first_refused m (suc at) i xs d (le_of_suc-le-suc h) (λ k l. before (suc k) (omega arith)) bad
-          ∙ ap (λ (k : ℕ). refuses m k) (omega arith)
+      ∙ first_refused m (suc at) i xs d (le_of_suc-le-suc h) (λ k l. before (suc k) (omega arith)) bad
+      ∙ ap (λ (k : ℕ). refuses m k) (omega arith)
 
   -- a row that its rule lets pass
   module _ (rule : Bool) (n : ℕ) (s : List A) (old : List B) (pass : rule ≡ false) where

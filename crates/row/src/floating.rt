@@ -1,4 +1,6 @@
 // u16 to f32: every sample has its number in the other kind. RULES.md: Rows, Exact conversion.
+#![tactic(auto, using(crate::proofs::IntoF32::u16_float))]
+
 ghost use Rattle.std.specs.Prelude.{◌≡◌, refl};
 ghost use Rattle.row.specs.Row.{rowed_outcome};
 ghost use Rattle.row.specs.Convert.{u16_to_f32, convert_answer, convert_exit};
@@ -15,7 +17,6 @@ impl Test for U16ToF32 {
 
     ghost test = { λ n. is_refused (u16_to_f32 n) };
 
-    #[tactic(auto, using(crate::proofs::IntoF32::u16_float))]
     fn passes(_x: u16) -> bool {
         false
     }
@@ -28,12 +29,10 @@ impl Conversion for U16ToF32 {
 
     ghost told = { λ n. refl };
 
-    #[tactic(auto, using(crate::proofs::IntoF32::u16_float))]
     fn number(_x: u16) -> u8 {
         unreachable!()
     }
 
-    #[tactic(auto, using(crate::proofs::IntoF32::u16_float))]
     fn converted(x: u16) -> f32 {
         x as f32
     }

@@ -1,4 +1,6 @@
 // u16 to u8. RULES.md: Rows, Exact conversion.
+#![tactic(auto, using(crate::proofs::IntoUnsigned::u16_narrower, crate::proofs::IntoUnsigned::u16_wide))]
+
 ghost use Rattle.std.specs.Prelude.{◌≡◌, refl};
 ghost use Rattle.row.specs.Row.{rowed_outcome};
 ghost use Rattle.row.specs.Convert.{u16_to_u8, convert_answer, convert_exit};
@@ -15,7 +17,6 @@ impl Test for U16ToU8 {
 
     ghost test = { λ n. is_refused (u16_to_u8 n) };
 
-    #[tactic(auto, using(crate::proofs::IntoUnsigned::u16_narrower, crate::proofs::IntoUnsigned::u16_wide))]
     fn passes(x: u16) -> bool {
         x > 255
     }
@@ -28,12 +29,10 @@ impl Conversion for U16ToU8 {
 
     ghost told = { λ n. refl };
 
-    #[tactic(auto, using(crate::proofs::IntoUnsigned::u16_narrower, crate::proofs::IntoUnsigned::u16_wide))]
     fn number(_x: u16) -> u8 {
         4
     }
 
-    #[tactic(auto, using(crate::proofs::IntoUnsigned::u16_narrower, crate::proofs::IntoUnsigned::u16_wide))]
     fn converted(x: u16) -> u8 {
         x as u8
     }

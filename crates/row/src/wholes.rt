@@ -54,6 +54,7 @@ impl Conversion for F32ToU16 {
         }
     }
 
+    #[tactic(auto, using(crate::proofs::IntoU16::kept_casts, crate::proofs::IntoU16::kept_given))]
     fn converted(x: f32) -> u16 {
         x as u16
     }

@@ -1,4 +1,6 @@
 // u8 to u16: every sample has its number in the other kind. RULES.md: Rows, Exact conversion.
+#![tactic(auto, using(crate::proofs::IntoUnsigned::u8_wider))]
+
 ghost use Rattle.std.specs.Prelude.{◌≡◌, refl};
 ghost use Rattle.row.specs.Row.{rowed_outcome};
 ghost use Rattle.row.specs.Convert.{u8_to_u16, convert_answer, convert_exit};
@@ -15,7 +17,6 @@ impl Test for U8ToU16 {
 
     ghost test = { λ n. is_refused (u8_to_u16 n) };
 
-    #[tactic(auto, using(crate::proofs::IntoUnsigned::u8_wider))]
     fn passes(_x: u8) -> bool {
         false
     }
@@ -28,12 +29,10 @@ impl Conversion for U8ToU16 {
 
     ghost told = { λ n. refl };
 
-    #[tactic(auto, using(crate::proofs::IntoUnsigned::u8_wider))]
     fn number(_x: u8) -> u8 {
         unreachable!()
     }
 
-    #[tactic(auto, using(crate::proofs::IntoUnsigned::u8_wider))]
     fn converted(x: u8) -> u16 {
         x as u16
     }

@@ -19,7 +19,7 @@ returns-in-Some g c =
     let src = c.args.src.now in
     let conversion = g.C.Conversion.conversion in
     let both = sample_decides_row conversion src c.args.dst.now c.if-src-dst.false g.C.Test.test c.in-Some.place c.number.result x
-        (λ k l. g.met.C.Conversion.told (get_or src k x)) (search rules) (ap conversion (sym c.index-src-place.is) ∙ c.number.ensures) in
+    (λ k l. g.met.C.Conversion.told (get_or src k x)) (search rules) (ap conversion (sym c.index-src-place.is) ∙ c.number.ensures) in
     record { answer = both.0; exit = both.1 }
 
 pub converted-requires : goal.converted-requires
