@@ -31,7 +31,7 @@ use Rattle.row.specs.Inner.{is_refused, is_whole, is_misfit, as_f32, as_u16}
 use Rattle.row.proofs.FloatValue.{pattern_value, bits_value, over_one}
 use Rattle.row.proofs.IntoF32.{cast_value}
 use Rattle.row.proofs.WholeFloats.{whole_found, whole_passes, large_whole, below_large}
-use Rattle.row.proofs.F32Sample.{exact_of, nan_refused, infinity_refused, minus_zero_refused}
+use Rattle.row.proofs.F32Sample.{bits_are, exact_of, nan_refused, infinity_refused, minus_zero_refused}
 use Rattle.row.proofs.F32Sample.{fraction_refused, outside_refused, inside_given}
 use Rattle.row.proofs.Misfits.{Sample, fit_sample, sample_fit}
 
@@ -181,3 +181,18 @@ module _ (x : Float) (hx : T (fits binary32 x)) where
 
   pub kept_given : is_refused (f32_to_u16 x) ≡ false → f32_to_u16 x ≡ gives (as_u16 x)
   kept_given h = fit_given (sym refused_misfit ∙ h)
+
+-- what the code of one sample is proved by
+pub ruleset sample_laws = (
+  bits_are,
+  plain_float,
+  refused_misfit,
+  refused_nan,
+  refused_infinity,
+  refused_minus_zero,
+  refused_large,
+  refused_whole,
+  refused_fraction,
+  kept_casts,
+  kept_given,
+)

@@ -1,4 +1,6 @@
 // f32 to u16: whole numbers in range. RULES.md: Rows, Exact conversion.
+#![tactic(auto, using(crate::proofs::IntoU16::sample_laws))]
+
 ghost use Rattle.std.specs.Prelude.{◌≡◌, refl};
 ghost use Rattle.row.specs.Row.{rowed_outcome};
 ghost use Rattle.row.specs.Convert.{f32_to_u16, convert_answer, convert_exit};
@@ -54,7 +56,6 @@ impl Conversion for F32ToU16 {
         }
     }
 
-    #[tactic(auto, using(crate::proofs::IntoU16::kept_casts, crate::proofs::IntoU16::kept_given))]
     fn converted(x: f32) -> u16 {
         x as u16
     }
