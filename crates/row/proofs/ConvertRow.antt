@@ -1,14 +1,13 @@
 -- The conversion of a row: rows of two lengths, a row with a sample that is refused, a row converted whole.
 use mathlib.Core.Path.{◌≡◌, sym, ◌∙◌, ap}
-use mathlib.Core.Bool.{Bool, false, not}
+use mathlib.Core.Bool.{Bool, not}
 use mathlib.Core.List.{List, map}
-use Prim.Native.Nat.{ℕ, ◌≤◌, ◌<◌}
-use native.Mathlib.Omega.{arith}
+use Prim.Native.Nat.{ℕ, ◌<◌}
 use borrow.Author.Tests.{eq-eqb, ne_eqb}
 use lib.Dec.{eqb}
 use lib.ListN.{length, get_or, length-map}
 use Rattle.std.proofs.lemmas.List.{get_or_default}
-use Rattle.std.specs.Prelude.{Option, Some, position}
+use Rattle.std.specs.Prelude.{Some, position}
 use Rattle.value.specs.Outcome.{Outcome, gives, refuses, Success, done}
 use Rattle.row.specs.Convert.{convert_answer, convert_exit}
 use Rattle.row.specs.Inner.{is_refused}

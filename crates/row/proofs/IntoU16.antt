@@ -1,16 +1,14 @@
 -- One f32 sample into u16: what the cast makes of one that fits, and by its bits what refuses one that doesn't.
 use mathlib.Core.Path.{◌≡◌, refl, sym, ◌∙◌, ap, subst}
 use mathlib.Core.Bool.{Bool, true, false, not, true≢false}
-use mathlib.Core.List.{List, map}
 use Prim.Native.Nat.{ℕ, ◌*◌, ◌^◌, ◌≤◌, ◌<◌}
 use native.Mathlib.Nat.{zero-mul}
 use native.Mathlib.Omega.{arith}
 use borrow.Author.Tests.{le-ltb, ltb-true, ltb-false, eq-eqb, eqb-true, eqb-false, leb-true, leb-false}
 use lib.Dec.{T, ltb, leb, eqb, le→leb, lit≤}
 use lib.IntN.{pos}
-use lib.ListN.{length, get_or}
 use lib.Pow.{pow_pos}
-use lib.Ieee.{Float, nan, binary32, fits, nan_bits, to_bits, of_bits, in_unsigned, in_float, to_unsigned}
+use lib.Ieee.{Float, binary32, fits, nan_bits, to_bits, of_bits, in_unsigned, in_float, to_unsigned}
 use lib.Ieee.Back.{unsigned_back, whole_unique}
 use lib.Ieee.Bits.{of_bits-fits}
 use lib.Ieee.Exact.{HasValue}
@@ -21,11 +19,10 @@ use Rattle.float.specs.Order.{pattern_of}
 use Rattle.float.proofs.Comparing.{pattern_nan, pattern_infinite, pattern_finite, pattern_clear}
 use Rattle.float.proofs.Magnitude.{abs_clear}
 use Rattle.value.specs.Meaning.{step_of}
-use Rattle.value.specs.Outcome.{gives, refuses, done}
+use Rattle.value.specs.Outcome.{gives, refuses}
 use Rattle.value.proofs.FloatBits.{from_bits}
 use Rattle.convert.specs.Convert.{is_minus_zero, outside}
 use Rattle.convert.proofs.MinusZero.{minus_zero_float}
-use Rattle.row.specs.Row.{first}
 use Rattle.row.specs.Convert.{f32_to_u16}
 use Rattle.row.specs.Inner.{is_refused, is_whole, is_misfit, as_f32, as_u16}
 use Rattle.row.proofs.FloatValue.{pattern_value, bits_value, over_one}

@@ -1,13 +1,11 @@
 -- One sample into an unsigned kind of k bits: a fraction is 3, a whole number out of its range 4, and any other without a sign is given.
 use mathlib.Core.Path.{◌≡◌, refl, sym, ◌∙◌, ap}
 use mathlib.Core.Bool.{Bool, true, false, cond}
-use mathlib.Core.List.{List, map}
-use Prim.Native.Nat.{ℕ, ◌-◌, ◌*◌, ◌/◌, ◌%◌, ◌^◌, ◌≤◌, ◌<◌}
+use Prim.Native.Nat.{ℕ, ◌-◌, ◌*◌, ◌/◌, ◌%◌, ◌^◌, ◌<◌}
 use native.Mathlib.Nat.{mul-div_cancel, mul-mod_left, mul-pos, zero-mod}
 use native.Mathlib.Omega.{arith}
 use borrow.Author.Tests.{eq-eqb, ne_eqb, le-ltb, ltb-true, ltb-false}
 use lib.Dec.{ltb}
-use lib.ListN.{length, get_or}
 use lib.Pow.{pow_pos}
 use Rattle.float.specs.Number.{Exact, finite}
 use Rattle.float.proofs.Tests.{clash}
@@ -15,16 +13,14 @@ use Rattle.value.specs.declared.Kind.{Kind}
 use Rattle.value.specs.declared.Kind.TheVariants as kind
 use Rattle.value.specs.Kinds.{unsigned, form_of}
 use Rattle.value.specs.Meaning.{bits_of, unit}
-use Rattle.value.specs.Outcome.{gives, refuses, mapped, done}
+use Rattle.value.specs.Outcome.{gives, refuses, mapped}
 use Rattle.value.proofs.Units.{unit_pos}
 use Rattle.convert.specs.Convert.{outside, magnitude_for, made_in, convert_of}
 use Rattle.convert.specs.Inner.{into_of}
 use Rattle.convert.proofs.MinusZero.{some_magnitude}
 use Rattle.convert.proofs.Wholes.{limit_is}
-use Rattle.row.specs.Row.{first}
 use Rattle.row.specs.Convert.{u8_to_u16, u16_to_u8}
 use Rattle.row.specs.Inner.{is_wide}
-use Rattle.row.proofs.Scan.{first_hit}
 
 -- ---- a kind whose values are numbers of k bits
 

@@ -6,27 +6,45 @@ ghost use Rattle.row.specs.Convert.{convert_answer, convert_exit};
 ghost use Rattle.row.specs.Inner.{is_refused};
 
 use crate::looking::{Test, first_of};
+use std::marker::PhantomData;
 use value::Refusal;
 
-// The conversion of one sample; a sample that passes the test is refused.
-pub(crate) trait Conversion: Test {
+// The conversion of one sample, which may be refused.
+pub(crate) trait Conversion {
+    type From: Copy;
+
     type To: Copy;
 
-    ghost conversion: { Self.Sample → Outcome Self.To };
+    ghost conversion: { Self.From → Outcome Self.To };
+
+    fn is_refused(x: Self::From) -> bool
+        ensures { result ≡ is_refused (conversion x) };
 
     // The number of the refusal.
-    fn number(x: Self::Sample) -> u8
-        requires { Self.test x ≡ true }
+    fn number(x: Self::From) -> u8
+        requires { is_refused (conversion x) ≡ true }
         ensures { conversion x ≡ refuses result 0 };
 
-    fn converted(x: Self::Sample) -> Self::To
-        requires { Self.test x ≡ false }
+    fn converted(x: Self::From) -> Self::To
+        requires { is_refused (conversion x) ≡ false }
         ensures { conversion x ≡ gives result };
-
-    ghost told: { (x : Self.Sample) → is_refused (conversion x) ≡ Self.test x };
 }
 
-pub(crate) fn convert<C: Conversion>(src: &[C::Sample], dst: &mut [C::To]) -> Result<(), Refusal>
+// The test that a refused sample passes.
+struct Refused<C>(PhantomData<C>);
+
+impl<C: Conversion> Test for Refused<C> {
+    type Sample = C::From;
+
+    ghost test = { λ x. is_refused (C.conversion x) };
+
+    fn passes(x: C::From) -> bool {
+        C::is_refused(x)
+    }
+}
+
+#[tactic(auto, using(crate::proofs::Scan::found_passes, crate::proofs::Scan::none_passes))]
+pub(crate) fn convert<C: Conversion>(src: &[C::From], dst: &mut [C::To]) -> Result<(), Refusal>
     ensures answer { rowed_outcome result ≡ convert_answer C.conversion src.now dst.old }
     ensures exit { dst.new ≡ convert_exit C.conversion src.now dst.old }
 {
@@ -36,7 +54,7 @@ pub(crate) fn convert<C: Conversion>(src: &[C::Sample], dst: &mut [C::To]) -> Re
             place: 0,
         });
     }
-    if let Some(place) = first_of::<C>(src) {
+    if let Some(place) = first_of::<Refused<C>>(src) {
         return Err(Refusal {
             number: C::number(src[place]),
             place,

@@ -1,34 +1,27 @@
 // u16 to f32: every sample has its number in the other kind. RULES.md: Rows, Exact conversion.
 #![tactic(auto, using(crate::proofs::IntoF32::u16_float))]
 
-ghost use Rattle.std.specs.Prelude.{◌≡◌, refl};
+ghost use Rattle.std.specs.Prelude.{◌≡◌};
 ghost use Rattle.row.specs.Row.{rowed_outcome};
 ghost use Rattle.row.specs.Convert.{u16_to_f32, convert_answer, convert_exit};
-ghost use Rattle.row.specs.Inner.{is_refused};
 
 use crate::conversion::{Conversion, convert};
-use crate::looking::Test;
 use value::Refusal;
 
 struct U16ToF32;
 
-impl Test for U16ToF32 {
-    type Sample = u16;
-
-    ghost test = { λ n. is_refused (u16_to_f32 n) };
-
-    fn passes(_x: u16) -> bool {
-        false
-    }
-}
-
 impl Conversion for U16ToF32 {
+    type From = u16;
+
     type To = f32;
 
     ghost conversion = { u16_to_f32 };
 
-    ghost told = { λ n. refl };
+    fn is_refused(_x: u16) -> bool {
+        false
+    }
 
+    // No sample is refused.
     fn number(_x: u16) -> u8 {
         unreachable!()
     }

@@ -1,33 +1,25 @@
 // u16 to u8. RULES.md: Rows, Exact conversion.
 #![tactic(auto, using(crate::proofs::IntoUnsigned::u16_narrower, crate::proofs::IntoUnsigned::u16_wide))]
 
-ghost use Rattle.std.specs.Prelude.{◌≡◌, refl};
+ghost use Rattle.std.specs.Prelude.{◌≡◌};
 ghost use Rattle.row.specs.Row.{rowed_outcome};
 ghost use Rattle.row.specs.Convert.{u16_to_u8, convert_answer, convert_exit};
-ghost use Rattle.row.specs.Inner.{is_refused};
 
 use crate::conversion::{Conversion, convert};
-use crate::looking::Test;
 use value::Refusal;
 
 struct U16ToU8;
 
-impl Test for U16ToU8 {
-    type Sample = u16;
-
-    ghost test = { λ n. is_refused (u16_to_u8 n) };
-
-    fn passes(x: u16) -> bool {
-        x > 255
-    }
-}
-
 impl Conversion for U16ToU8 {
+    type From = u16;
+
     type To = u8;
 
     ghost conversion = { u16_to_u8 };
 
-    ghost told = { λ n. refl };
+    fn is_refused(x: u16) -> bool {
+        x > 255
+    }
 
     fn number(_x: u16) -> u8 {
         4

@@ -1,13 +1,12 @@
 // f32 to u16: whole numbers in range. RULES.md: Rows, Exact conversion.
 #![tactic(auto, using(crate::proofs::IntoU16::sample_laws))]
 
-ghost use Rattle.std.specs.Prelude.{◌≡◌, refl};
+ghost use Rattle.std.specs.Prelude.{◌≡◌};
 ghost use Rattle.row.specs.Row.{rowed_outcome};
 ghost use Rattle.row.specs.Convert.{f32_to_u16, convert_answer, convert_exit};
-ghost use Rattle.row.specs.Inner.{is_refused, is_whole};
+ghost use Rattle.row.specs.Inner.{is_whole};
 
 use crate::conversion::{Conversion, convert};
-use crate::looking::Test;
 use value::Refusal;
 
 // Whether a sample from 0 up to 2^23 is whole: from 2^23 to 2^24 there are whole numbers only, so the sum loses a fraction.
@@ -19,23 +18,17 @@ fn is_whole(x: f32) -> bool
 
 struct F32ToU16;
 
-impl Test for F32ToU16 {
-    type Sample = f32;
-
-    ghost test = { λ x. is_refused (f32_to_u16 x) };
-
-    // One compare tells those from plus zero to 65535: all others have higher bits, minus zero and what is negative by the sign bit.
-    fn passes(x: f32) -> bool {
-        !((value::bits_f32(x, 0) <= 0x477f_ff00) & is_whole(x))
-    }
-}
-
 impl Conversion for F32ToU16 {
+    type From = f32;
+
     type To = u16;
 
     ghost conversion = { f32_to_u16 };
 
-    ghost told = { λ x. refl };
+    // One compare tells those from plus zero to 65535: all others have higher bits, minus zero and what is negative by the sign bit.
+    fn is_refused(x: f32) -> bool {
+        !((value::bits_f32(x, 0) <= 0x477f_ff00) & is_whole(x))
+    }
 
     // 1 NaN, 2 infinity, 13 minus zero, 3 fraction, 4 out of range. From 2^23 on every float is whole.
     fn number(x: f32) -> u8 {

@@ -1,34 +1,27 @@
 // u8 to u16: every sample has its number in the other kind. RULES.md: Rows, Exact conversion.
 #![tactic(auto, using(crate::proofs::IntoUnsigned::u8_wider))]
 
-ghost use Rattle.std.specs.Prelude.{◌≡◌, refl};
+ghost use Rattle.std.specs.Prelude.{◌≡◌};
 ghost use Rattle.row.specs.Row.{rowed_outcome};
 ghost use Rattle.row.specs.Convert.{u8_to_u16, convert_answer, convert_exit};
-ghost use Rattle.row.specs.Inner.{is_refused};
 
 use crate::conversion::{Conversion, convert};
-use crate::looking::Test;
 use value::Refusal;
 
 struct U8ToU16;
 
-impl Test for U8ToU16 {
-    type Sample = u8;
-
-    ghost test = { λ n. is_refused (u8_to_u16 n) };
-
-    fn passes(_x: u8) -> bool {
-        false
-    }
-}
-
 impl Conversion for U8ToU16 {
+    type From = u8;
+
     type To = u16;
 
     ghost conversion = { u8_to_u16 };
 
-    ghost told = { λ n. refl };
+    fn is_refused(_x: u8) -> bool {
+        false
+    }
 
+    // No sample is refused.
     fn number(_x: u8) -> u8 {
         unreachable!()
     }

@@ -6,7 +6,7 @@ use Prim.Native.Nat.{ℕ, ◌<◌}
 use lib.Dec.{T}
 use lib.ListN.{length, get_or}
 use lib.Ieee.{Float, binary32, nan, is_nan, fits, lt, le, ne}
-use Rattle.std.specs.Prelude.{Option, None, Some, position}
+use Rattle.std.specs.Prelude.{None, Some, position}
 use Rattle.std.specs.Float.{float_clamp}
 use Rattle.std.proofs.lemmas.List.{get_or_default}
 use Rattle.std.proofs.lemmas.List.Quantifiers.{position-Some}
@@ -20,7 +20,7 @@ use Rattle.choose.proofs.Samples.{sample_nan, sample_lower, sample_upper, sample
 use Rattle.row.specs.Inner.{is_refused}
 use Rattle.rowclamp.specs.Clamp.{clamp_answer, clamp_exit}
 use Rattle.row.proofs.Scan.{found_passes, none_passes}
-use Rattle.row.proofs.Rows.{Given, row_ruled, sample_decides, all_done}
+use Rattle.row.proofs.Rows.{row_ruled, sample_decides, all_done}
 
 -- every sample is a float of its format, as all that a program holds are
 abbrev AllFit : List Float → Type 0

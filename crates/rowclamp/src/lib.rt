@@ -35,10 +35,7 @@ pub fn clamp(row: &mut [f32], range: Range) -> Result<(), Refusal>
         });
     }
     if let Some(place) = first_of::<NotANumber>(row) {
-        return Err(Refusal {
-            number: 8,
-            place,
-        });
+        return Err(Refusal { number: 8, place });
     }
     for x in row.iter_mut() {
         *x = x.clamp(lower, upper);

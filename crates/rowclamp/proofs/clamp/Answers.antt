@@ -1,5 +1,5 @@
 -- Bounds out of order, a NaN, or a row that was clamped whole: each is one law of the row.
-use Rattle.std.proofs.Common.{◌≢◌, ℕ, ◌<◌, ◌≤◌, ◌∙◌, ap, length, arith, get_or-set_other, get_or-set_same, below_more}
+use Rattle.std.proofs.Common.{◌≢◌, ◌<◌, ◌∙◌, ap, length, arith, get_or-set_other, get_or-set_same, below_more}
 use Rattle.std.specs.Float.{float_clamp}
 use borrow.Author.Rules.{rules}
 use Rattle.rowclamp.proofs.ClampRow.{clamp_row_bounds, clamp_row_refused, clamp_row_done}
@@ -8,7 +8,7 @@ use Rattle.rowclamp.proofs.clamp.Goals as goal
 pub returns-in-Some : goal.returns-in-Some
 returns-in-Some c =
     let both = clamp_row_refused c.args.range (search rules) (search rules) c.if-not-lower-upper.false c.args.row.now (λ i h. search rules) c.in-Some.place
-        (search rules) in
+    (search rules) in
     record { answer = both.0; exit = both.1 }
 
 pub loop-x-preserved : goal.loop-x-preserved
@@ -24,8 +24,8 @@ loop-x-preserved c =
 
 pub returns : goal.returns
 returns c =
-    let both = clamp_row_done c.args.range (search rules) (search rules) c.if-not-lower-upper.false c.args.row.now (λ i h. search rules) c.loop-x.row (omega arith)
-        (search rules) (λ k l. c.loop-x.invariant.0 k (omega arith)) in
+    let both = clamp_row_done c.args.range (search rules) (search rules) c.if-not-lower-upper.false c.args.row.now (λ i h. search rules) c.loop-x.row
+    (omega arith) (search rules) (λ k l. c.loop-x.invariant.0 k (omega arith)) in
     record { answer = both.0; exit = both.1 }
 
 pub returns-then-not-lower-upper : goal.returns-then-not-lower-upper

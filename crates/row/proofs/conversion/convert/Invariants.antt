@@ -4,5 +4,5 @@ use Rattle.value.specs.Outcome.{gives}
 use Rattle.row.proofs.conversion.convert.Given as goal
 
 abbrev pub invariant-loop-i : goal.invariant-loop-i
-invariant-loop-i g l = (k : ℕ) (x : g.row.C-Sample.Denot) (y : g.row.C-To.Denot) → k < l.i
+invariant-loop-i g l = (k : ℕ) (x : g.row.C-From.Denot) (y : g.row.C-To.Denot) → k < l.i
     → g.C.Conversion.conversion (get_or l.src k x) ≡ gives (get_or l.dst k y)

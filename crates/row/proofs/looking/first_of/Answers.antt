@@ -1,5 +1,5 @@
 -- The blocks that were passed have no such sample.
-use Rattle.std.proofs.Common.{rules, ◌≡◌, ℕ, ◌+◌, false, arith, take}
+use Rattle.std.proofs.Common.{rules, ◌≡◌, ◌+◌, false, arith, take}
 use Rattle.std.specs.List.{list_any, position_or_len}
 use Rattle.row.proofs.Scan.{passed_block}
 use Rattle.row.proofs.looking.first_of.Goals as goal

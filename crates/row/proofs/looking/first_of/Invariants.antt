@@ -1,5 +1,5 @@
 -- The blocks that were passed have no such sample.
-use Rattle.std.proofs.Common.{◌≡◌, ℕ, ◌+◌, drop, length}
+use Rattle.std.proofs.Common.{◌≡◌, ◌+◌, length}
 use Rattle.std.specs.List.{position_or_len}
 use Rattle.row.proofs.looking.first_of.Given as goal
 
