@@ -1,5 +1,5 @@
 // Rows of samples that the caller lends, converted into a second row. A row is refused whole, with the lowest index deciding, or done whole:
-// a pass that only looks comes before the pass that writes (docs/RULES.md: Rows). A row is clamped by the crate rowclamp, which looks by the same pass.
+// a pass that only looks comes before the pass that writes (docs/RULES.md: Rows). A row is clamped by the crate rowclamp.
 #![tactic(auto)]
 
 mod conversion;
