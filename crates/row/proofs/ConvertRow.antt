@@ -1,17 +1,18 @@
 -- The conversion of a row: rows of two lengths, a row with a sample that is refused, a row converted whole.
-use mathlib.Core.Path.{◌≡◌, sym, ap}
-use mathlib.Core.Bool.{Bool, false, not}
+use mathlib.Core.Path.{◌≡◌, sym, ◌∙◌, ap}
+use mathlib.Core.Bool.{Bool, not}
 use mathlib.Core.List.{List, map}
-use Prim.Native.Nat.{ℕ, ◌≤◌, ◌<◌}
-use native.Mathlib.Omega.{arith}
+use Prim.Native.Nat.{ℕ, ◌<◌}
 use borrow.Author.Tests.{eq-eqb, ne_eqb}
 use lib.Dec.{eqb}
-use lib.ListN.{length, get_or}
+use lib.ListN.{length, get_or, length-map}
+use Rattle.std.proofs.lemmas.List.{get_or_default}
+use Rattle.std.specs.Prelude.{Some, position}
 use Rattle.value.specs.Outcome.{Outcome, gives, refuses, Success, done}
-use Rattle.row.specs.Row.{first}
 use Rattle.row.specs.Convert.{convert_answer, convert_exit}
-use Rattle.row.proofs.Scan.{first_never}
-use Rattle.row.proofs.Rows.{row_ruled, sample_refused, all_done}
+use Rattle.row.specs.Inner.{is_refused}
+use Rattle.row.proofs.Rows.{Given, row_ruled, sample_decides, all_done}
+use Rattle.row.proofs.Written.{mapped_at}
 
 module _ {A B : Type 0} (conv : A → Outcome B) (src : List A) (dst : List B) where
   abbrev lengths_differ : Bool
@@ -25,18 +26,22 @@ module _ {A B : Type 0} (conv : A → Outcome B) (src : List A) (dst : List B) w
   unfolding convert_answer convert_exit
   lengths_differ_lem h = row_ruled conv src lengths_differ 9 dst (ap not (ne_eqb _ _ h))
 
-  module _ (test : A → Bool) (f : A → B) (P : A → Type 0) (d : A) (good : (x : A) → P x → test x ≡ false → conv x ≡ gives (f x))
-      (same : length src ≡ length dst) (all : (i : ℕ) → i < length src → P (get_or src i d)) (at : ℕ) (at-is : at ≡ first test src) where
-    pub convert_refused : at < length src → (m p : ℕ) → conv (get_or src at d) ≡ refuses m p → Answers (refuses m at) dst
+  module _ (same : length src ≡ length dst) where
+    pub sample_decides_row : (test : A → Bool) (i m : ℕ) (d : A) → ((k : ℕ) → k < length src → is_refused (conv (get_or src k d)) ≡ test (get_or src k d))
+        → position test src ≡ Some i → conv (get_or src i d) ≡ refuses m 0 → Answers (refuses m i) dst
     unfolding convert_answer convert_exit
-    convert_refused = sample_refused conv test f P d good lengths_differ 9 src dst (ap not (eq-eqb _ _ same)) all at at-is
+    sample_decides_row = sample_decides conv lengths_differ 9 src dst (ap not (eq-eqb _ _ same))
 
-    pub convert_done : (now : List B) → length src ≤ at → now ≡ map f src → Answers (gives done) now
+    pub all_converted : (now : List B) → length src ≡ length now → Given conv src now → Answers (gives done) now
     unfolding convert_answer convert_exit
-    convert_done = all_done conv test f P d good lengths_differ 9 src dst (ap not (eq-eqb _ _ same)) all at at-is same
+    all_converted = all_done conv lengths_differ 9 src dst (ap not (eq-eqb _ _ same)) same
 
   -- where no sample is refused
   pub always_done : (f : A → B) (P : A → Type 0) (d : A) → ((x : A) → P x → conv x ≡ gives (f x)) → length src ≡ length dst
       → ((i : ℕ) → i < length src → P (get_or src i d))
       → (now : List B) → now ≡ map f src → Answers (gives done) now
-  always_done f P d good same all now q = convert_done (λ x. false) f P d (λ x p t. good x p) same all (length src) (sym (first_never src)) now (omega arith) q
+  always_done f P d good same all now q =
+      all_converted same now (sym (ap length q ∙ length-map src f)) (λ k x y l.
+      ap conv (get_or_default src k x d l)
+      ∙ good (get_or src k d) (all k l)
+      ∙ ap gives (sym (ap (λ r. get_or r k y) q ∙ mapped_at f src k d y l)))

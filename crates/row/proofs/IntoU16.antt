@@ -1,16 +1,14 @@
 -- One f32 sample into u16: what the cast makes of one that fits, and by its bits what refuses one that doesn't.
 use mathlib.Core.Path.{◌≡◌, refl, sym, ◌∙◌, ap, subst}
 use mathlib.Core.Bool.{Bool, true, false, not, true≢false}
-use mathlib.Core.List.{List, map}
 use Prim.Native.Nat.{ℕ, ◌*◌, ◌^◌, ◌≤◌, ◌<◌}
 use native.Mathlib.Nat.{zero-mul}
 use native.Mathlib.Omega.{arith}
-use borrow.Author.Tests.{le-ltb, ltb-false, eq-eqb, eqb-true}
-use lib.Dec.{T, ltb, le→leb, lit≤}
+use borrow.Author.Tests.{le-ltb, ltb-true, ltb-false, eq-eqb, eqb-true, eqb-false, leb-true, leb-false}
+use lib.Dec.{T, ltb, leb, eqb, le→leb, lit≤}
 use lib.IntN.{pos}
-use lib.ListN.{length, get_or}
 use lib.Pow.{pow_pos}
-use lib.Ieee.{Float, nan, binary32, fits, nan_bits, to_bits, of_bits, in_unsigned, in_float, to_unsigned}
+use lib.Ieee.{Float, binary32, fits, nan_bits, to_bits, of_bits, in_unsigned, in_float, to_unsigned}
 use lib.Ieee.Back.{unsigned_back, whole_unique}
 use lib.Ieee.Bits.{of_bits-fits}
 use lib.Ieee.Exact.{HasValue}
@@ -21,18 +19,16 @@ use Rattle.float.specs.Order.{pattern_of}
 use Rattle.float.proofs.Comparing.{pattern_nan, pattern_infinite, pattern_finite, pattern_clear}
 use Rattle.float.proofs.Magnitude.{abs_clear}
 use Rattle.value.specs.Meaning.{step_of}
-use Rattle.value.specs.Outcome.{gives, refuses, done}
+use Rattle.value.specs.Outcome.{gives, refuses}
 use Rattle.value.proofs.FloatBits.{from_bits}
 use Rattle.convert.specs.Convert.{is_minus_zero, outside}
 use Rattle.convert.proofs.MinusZero.{minus_zero_float}
-use Rattle.row.specs.Row.{first}
 use Rattle.row.specs.Convert.{f32_to_u16}
-use Rattle.row.specs.Inner.{is_whole, is_misfit, as_f32, as_u16}
-use Rattle.row.proofs.ConvertRow.{Answers, convert_refused, convert_done}
+use Rattle.row.specs.Inner.{is_refused, is_whole, is_misfit, as_f32, as_u16}
 use Rattle.row.proofs.FloatValue.{pattern_value, bits_value, over_one}
 use Rattle.row.proofs.IntoF32.{cast_value}
 use Rattle.row.proofs.WholeFloats.{whole_found, whole_passes, large_whole, below_large}
-use Rattle.row.proofs.F32Sample.{exact_of, nan_refused, infinity_refused, minus_zero_refused}
+use Rattle.row.proofs.F32Sample.{bits_are, exact_of, nan_refused, infinity_refused, minus_zero_refused}
 use Rattle.row.proofs.F32Sample.{fraction_refused, outside_refused, inside_given}
 use Rattle.row.proofs.Misfits.{Sample, fit_sample, sample_fit}
 
@@ -140,12 +136,60 @@ module _ (x : Float) (hx : T (fits binary32 x)) where
         refused_fraction h = fraction_refused x (negative_of 23 8 (to_bits binary32 x)) (mag_of 23 abs) own_exact
             (λ n w. true≢false (sym (small_passes abs small n w) ∙ h))
 
--- ---- a row of f32 to u16
+  -- ---- the test tells the refused
 
-module _ (src : List Float) (dst : List ℕ) (same : length src ≡ length dst)
-    (all : (i : ℕ) → i < length src → T (fits binary32 (get_or src i nan))) (at : ℕ) (at-is : at ≡ first is_misfit src) where
-  pub whole_row_refused : at < length src → (m : ℕ) → f32_to_u16 (get_or src at nan) ≡ refuses m 0 → Answers f32_to_u16 src dst (refuses m at) dst
-  whole_row_refused l m = convert_refused f32_to_u16 src dst is_misfit as_u16 (λ x. T (fits binary32 x)) nan fit_given same all at at-is l m 0
+  misfit_refused : is_misfit x ≡ true → is_refused (f32_to_u16 x) ≡ true
+  misfit_refused h = beyond (ltb 0x7f80_0000 abs) refl
+    where
+      abs : ℕ
+      abs = abs_of 23 8 (to_bits binary32 x)
 
-  pub whole_row_done : (now : List ℕ) → length src ≤ at → now ≡ map as_u16 src → Answers f32_to_u16 src dst (gives done) now
-  whole_row_done = convert_done f32_to_u16 src dst is_misfit as_u16 (λ x. T (fits binary32 x)) nan fit_given same all at at-is
+      small : (to_bits binary32 x ≡ 0x8000_0000 → ⊥) → abs < 0x7f80_0000 → abs < 0x4b00_0000 → (w : Bool) → is_whole (of_bits binary32 abs) ≡ w
+          → is_refused (f32_to_u16 x) ≡ true
+      small o l m true q = ap is_refused (refused_whole h o abs refl l m q)
+      small o l m false q = ap is_refused (refused_fraction h o abs refl l m q)
+
+      other : (to_bits binary32 x ≡ 0x8000_0000 → ⊥) → abs < 0x7f80_0000 → (t : Bool) → leb 0x4b00_0000 abs ≡ t → is_refused (f32_to_u16 x) ≡ true
+      other o l true q = ap is_refused (refused_large h o abs refl l (leb-true _ _ q))
+      other o l false q = small o l (leb-false _ _ q) (is_whole (of_bits binary32 abs)) refl
+
+      zero : abs < 0x7f80_0000 → (t : Bool) → eqb (to_bits binary32 x) 0x8000_0000 ≡ t → is_refused (f32_to_u16 x) ≡ true
+      zero l true q = ap is_refused (refused_minus_zero (eqb-true _ _ q))
+      zero l false q = other (eqb-false _ _ q) l (leb 0x4b00_0000 abs) refl
+
+      infinity : abs ≤ 0x7f80_0000 → (t : Bool) → eqb abs 0x7f80_0000 ≡ t → is_refused (f32_to_u16 x) ≡ true
+      infinity l true q = ap is_refused (refused_infinity abs refl (eqb-true _ _ q))
+      infinity l false q = let n = eqb-false _ _ q in zero (omega arith) (eqb (to_bits binary32 x) 0x8000_0000) refl
+
+      beyond : (t : Bool) → ltb 0x7f80_0000 abs ≡ t → is_refused (f32_to_u16 x) ≡ true
+      beyond true q = ap is_refused (refused_nan abs refl (ltb-true _ _ q))
+      beyond false q = infinity (ltb-false _ _ q) (eqb abs 0x7f80_0000) refl
+
+  pub refused_misfit : is_refused (f32_to_u16 x) ≡ is_misfit x
+  refused_misfit = go (is_misfit x) refl
+    where
+      go : (t : Bool) → is_misfit x ≡ t → is_refused (f32_to_u16 x) ≡ is_misfit x
+      go true h = misfit_refused h ∙ sym h
+      go false h = ap is_refused (fit_given h) ∙ sym h
+
+  -- what isn't refused is cast
+  pub kept_casts : is_refused (f32_to_u16 x) ≡ false → T (in_unsigned binary32 16 x)
+  kept_casts h = fit_casts (sym refused_misfit ∙ h)
+
+  pub kept_given : is_refused (f32_to_u16 x) ≡ false → f32_to_u16 x ≡ gives (as_u16 x)
+  kept_given h = fit_given (sym refused_misfit ∙ h)
+
+-- what the code of one sample is proved by
+pub ruleset sample_laws = (
+  bits_are,
+  plain_float,
+  refused_misfit,
+  refused_nan,
+  refused_infinity,
+  refused_minus_zero,
+  refused_large,
+  refused_whole,
+  refused_fraction,
+  kept_casts,
+  kept_given,
+)

@@ -1,13 +1,11 @@
 -- One sample into an unsigned kind of k bits: a fraction is 3, a whole number out of its range 4, and any other without a sign is given.
 use mathlib.Core.Path.{◌≡◌, refl, sym, ◌∙◌, ap}
 use mathlib.Core.Bool.{Bool, true, false, cond}
-use mathlib.Core.List.{List, map}
-use Prim.Native.Nat.{ℕ, ◌-◌, ◌*◌, ◌/◌, ◌%◌, ◌^◌, ◌≤◌, ◌<◌}
+use Prim.Native.Nat.{ℕ, ◌-◌, ◌*◌, ◌/◌, ◌%◌, ◌^◌, ◌<◌}
 use native.Mathlib.Nat.{mul-div_cancel, mul-mod_left, mul-pos, zero-mod}
 use native.Mathlib.Omega.{arith}
 use borrow.Author.Tests.{eq-eqb, ne_eqb, le-ltb, ltb-true, ltb-false}
 use lib.Dec.{ltb}
-use lib.ListN.{length, get_or}
 use lib.Pow.{pow_pos}
 use Rattle.float.specs.Number.{Exact, finite}
 use Rattle.float.proofs.Tests.{clash}
@@ -15,17 +13,14 @@ use Rattle.value.specs.declared.Kind.{Kind}
 use Rattle.value.specs.declared.Kind.TheVariants as kind
 use Rattle.value.specs.Kinds.{unsigned, form_of}
 use Rattle.value.specs.Meaning.{bits_of, unit}
-use Rattle.value.specs.Outcome.{gives, refuses, mapped, done}
+use Rattle.value.specs.Outcome.{gives, refuses, mapped}
 use Rattle.value.proofs.Units.{unit_pos}
 use Rattle.convert.specs.Convert.{outside, magnitude_for, made_in, convert_of}
 use Rattle.convert.specs.Inner.{into_of}
 use Rattle.convert.proofs.MinusZero.{some_magnitude}
 use Rattle.convert.proofs.Wholes.{limit_is}
-use Rattle.row.specs.Row.{first}
 use Rattle.row.specs.Convert.{u8_to_u16, u16_to_u8}
 use Rattle.row.specs.Inner.{is_wide}
-use Rattle.row.proofs.Scan.{first_hit}
-use Rattle.row.proofs.ConvertRow.{Answers, convert_refused, convert_done}
 
 -- ---- a kind whose values are numbers of k bits
 
@@ -71,11 +66,11 @@ pub u8_wider : (n : ℕ) → n < 2 ^ 8 → u8_to_u16 n ≡ gives n
 unfolding u8_to_u16 convert_of into_of
 u8_wider n h = into_inside kind.U16 16 refl n u16_made (le-ltb (2 ^ 16 - 1) n (omega arith))
 
-u16_narrower : (n : ℕ) → is_wide n ≡ false → u16_to_u8 n ≡ gives n
+pub u16_narrower : (n : ℕ) → is_wide n ≡ false → u16_to_u8 n ≡ gives n
 unfolding u16_to_u8 convert_of into_of
 u16_narrower n h = into_inside kind.U8 8 refl n u8_made h
 
-u16_wide : (n : ℕ) → is_wide n ≡ true → u16_to_u8 n ≡ refuses 4 0
+pub u16_wide : (n : ℕ) → is_wide n ≡ true → u16_to_u8 n ≡ refuses 4 0
 unfolding u16_to_u8 convert_of into_of
 u16_wide n h = ap (mapped bits_of) (into_outside kind.U8 8 refl n false h)
 
@@ -86,13 +81,3 @@ narrow_small n b q = go (is_wide n) refl
     go : (t : Bool) → is_wide n ≡ t → b < 2 ^ 8
     go true h = clash (let k = sym (u16_wide n h) ∙ q in cc)
     go false h = let k : n ≡ b = cc (sym (u16_narrower n h) ∙ q) in let l = ltb-false 255 n h in omega arith
-
--- ---- a row of u16 to u8
-
-module _ (src dst : List ℕ) (same : length src ≡ length dst) (at : ℕ) (at-is : at ≡ first is_wide src) where
-  pub narrow_refused : at < length src → Answers u16_to_u8 src dst (refuses 4 at) dst
-  narrow_refused l = convert_refused u16_to_u8 src dst is_wide (λ n. n) (λ n. Unit {0}) 0 (λ n t. u16_narrower n) same (λ i h. tt) at
-      at-is l 4 0 (u16_wide (get_or src at 0) (first_hit is_wide src at 0 at-is l))
-
-  pub narrow_done : (now : List ℕ) → length src ≤ at → now ≡ map (λ (n : ℕ). n) src → Answers u16_to_u8 src dst (gives done) now
-  narrow_done = convert_done u16_to_u8 src dst is_wide (λ n. n) (λ n. Unit {0}) 0 (λ n t. u16_narrower n) same (λ i h. tt) at at-is

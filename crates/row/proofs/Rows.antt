@@ -1,16 +1,19 @@
--- What a row answers and leaves: a rule of the whole row comes first, then a test tells which samples are refused.
+-- What a row answers and leaves: a rule of the whole row comes first, then the first sample that is refused decides, or each is given.
 use mathlib.Core.Path.{◌≡◌, refl, sym, ◌∙◌, ap}
 use mathlib.Core.Bool.{Bool, true, false, cond}
 use mathlib.Core.List.{List, [], ◌∷◌, map}
-use Prim.Native.Nat.{ℕ, suc, ◌+◌, ◌≤◌, ◌<◌}
-use native.Mathlib.Nat.{not-suc-le-zero, zero-add}
+use Prim.Native.Nat.{ℕ, zero, suc, ◌+◌, ◌<◌}
+use native.Mathlib.Nat.{not-suc-le-zero, le_of_suc-le-suc, zero-add, lt_trans}
 use native.Mathlib.Omega.{arith}
-use lib.ListN.{length, get_or, length-map}
+use lib.ListN.{length, get_or}
+use Rattle.std.specs.Prelude.{Some, position}
+use Rattle.std.proofs.lemmas.List.Quantifiers.{position-Some}
 use Rattle.value.specs.Outcome.{Outcome, gives, refuses, refuse_if, Success, done, lent_after}
 use Rattle.value.proofs.Outcomes.{refused_unchanged, given_fills}
 use Rattle.float.proofs.Tests.{clash}
 use Rattle.row.specs.Row.{row_answer, row_results, first, sample_then, sample_before}
-use Rattle.row.proofs.Scan.{first_all, none_at}
+use Rattle.row.specs.Inner.{is_refused}
+use Rattle.row.proofs.Scan.{none_at}
 
 -- what is answered where the row as a whole is refused with a number by a rule, and what the lent row holds after an answer
 module _ {A B : Type 0} (conv : A → Outcome B) (s : List A) where
@@ -64,27 +67,59 @@ module _ {A B : Type 0} (conv : A → Outcome B) (test : A → Bool) (f : A → 
       let r = row_done (suc at) xs (tail x xs p) c.1 in
       (ap (λ o. sample_then at o (row_answer conv (suc at) xs)) g ∙ r.0, ap (λ o. sample_before o (row_results conv xs)) g ∙ ap (λ l. f x ∷ l) r.1)
 
-  -- ---- a row that its rule lets pass, with what the looking pass found
+-- ---- a row by what the code finds of each sample
 
-  module _ (rule : Bool) (n : ℕ) (s : List A) (old : List B) (pass : rule ≡ false) (all : All s) (at : ℕ) (at-is : at ≡ first test s) where
+module _ {A B : Type 0} (conv : A → Outcome B) where
+  -- each sample is given what stands at its place
+  abbrev pub Given : List A → List B → Type 0
+  Given s now = (k : ℕ) (x : A) (y : B) → k < length s → conv (get_or s k x) ≡ gives (get_or now k y)
+
+  all_given : (at : ℕ) (s : List A) (now : List B) → length s ≡ length now → Given s now → (row_answer conv at s ≡ gives done) × (row_results conv s ≡ now)
+  unfolding row_answer row_results
+  all_given at [] [] n h = (refl, refl)
+  all_given at [] (y ∷ ys) n h = absurd (omega arith)
+  all_given at (x ∷ xs) [] n h = absurd (omega arith)
+  all_given at (x ∷ xs) (y ∷ ys) n h =
+      let r = all_given (suc at) xs ys (omega arith) (λ k u v l. h (suc k) u v (omega arith)) in
+      let g : conv x ≡ gives y = h 0 x y (omega arith) in
+      (ap (λ o. sample_then at o (row_answer conv (suc at) xs)) g ∙ r.0, ap (λ o. sample_before o (row_results conv xs)) g ∙ ap (λ l. y ∷ l) r.1)
+
+  given_passes : (at : ℕ) (o : Outcome B) (rest : Outcome Success) → is_refused o ≡ false → sample_then at o rest ≡ rest
+  given_passes at (gives y) rest h = refl
+  given_passes at (refuses n p) rest h = clash cc
+
+  first_refused : (m at i : ℕ) (s : List A) (d : A) → i < length s → ((k : ℕ) → k < i → is_refused (conv (get_or s k d)) ≡ false)
+      → conv (get_or s i d) ≡ refuses m 0 → row_answer conv at s ≡ refuses m (at + i)
+  unfolding row_answer
+  first_refused m at i [] d h before bad = absurd (not-suc-le-zero h)
+  first_refused m at zero (x ∷ xs) d h before bad =
+      ap (λ o. sample_then at o (row_answer conv (suc at) xs)) bad ∙ ap (λ (k : ℕ). refuses m k) (omega arith)
+  first_refused m at (suc i) (x ∷ xs) d h before bad =
+      given_passes at (conv x) (row_answer conv (suc at) xs) (before 0 (omega arith))
+      ∙ first_refused m (suc at) i xs d (le_of_suc-le-suc h) (λ k l. before (suc k) (omega arith)) bad
+      ∙ ap (λ (k : ℕ). refuses m k) (omega arith)
+
+  -- a row that its rule lets pass
+  module _ (rule : Bool) (n : ℕ) (s : List A) (old : List B) (pass : rule ≡ false) where
     passed : ruled_answer conv s rule n ≡ row_answer conv 0 s
     passed = ap (λ (b : Bool). ruled_answer conv s b n) pass
 
-    -- the sample decides with its own number
-    pub sample_refused : at < length s → (m p : ℕ) → conv (get_or s at d) ≡ refuses m p
-        → (refuses m at ≡ ruled_answer conv s rule n) × (old ≡ left_after conv s old (ruled_answer conv s rule n))
-    sample_refused l m p bad =
-        let r = row_refused m p 0 s all (omega arith) (ap (λ (i : ℕ). conv (get_or s i d)) (sym at-is) ∙ bad) in
-        let o : ruled_answer conv s rule n ≡ refuses m at = passed ∙ r ∙ ap (λ (i : ℕ). refuses m i) (zero-add (first test s) ∙ sym at-is) in
+    -- the first sample that passes a test decides, where the test tells which are refused
+    pub sample_decides : (test : A → Bool) (i m : ℕ) (d : A) → ((k : ℕ) → k < length s → is_refused (conv (get_or s k d)) ≡ test (get_or s k d))
+        → position test s ≡ Some i → conv (get_or s i d) ≡ refuses m 0
+        → (refuses m i ≡ ruled_answer conv s rule n) × (old ≡ left_after conv s old (ruled_answer conv s rule n))
+    sample_decides test i m d told h bad =
+        let p = position-Some test s i d h in
+        let before : (k : ℕ) → k < i → is_refused (conv (get_or s k d)) ≡ false = λ k l. told k (lt_trans l p.0) ∙ p.2 k l in
+        let o : ruled_answer conv s rule n ≡ refuses m i = passed ∙ first_refused m 0 i s d p.0 before bad ∙ ap (λ (k : ℕ). refuses m k) (zero-add i) in
         (sym o, sym (refused_unchanged (λ (d : Success). row_results conv s) old o))
 
-    pub all_done : length s ≡ length old → (now : List B) → length s ≤ at → now ≡ map f s
+    pub all_done : length s ≡ length old → (now : List B) → length s ≡ length now → Given s now
         → (gives done ≡ ruled_answer conv s rule n) × (now ≡ left_after conv s old (ruled_answer conv s rule n))
-    all_done same now l q =
-        let r = row_done 0 s all (first_all test s at at-is l) in
+    all_done same now l h =
+        let r = all_given 0 s now l h in
         let o : ruled_answer conv s rule n ≡ gives done = passed ∙ r.0 in
-        let fills : length (row_results conv s) ≡ length old = ap length r.1 ∙ length-map s f ∙ same in
-        (sym o, q ∙ sym r.1 ∙ sym (given_fills (λ (d : Success). row_results conv s) old o fills))
+        (sym o, sym r.1 ∙ sym (given_fills (λ (d : Success). row_results conv s) old o (rw r.1 (sym l ∙ same))))
 
 -- a row in which no sample is refused has as many results
 pub results_length : {A B : Type 0} (conv : A → Outcome B) (at : ℕ) (xs : List A) →

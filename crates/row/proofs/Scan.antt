@@ -6,8 +6,15 @@ use Prim.Native.Nat.{ℕ, zero, suc, ◌+◌, ◌≤◌, ◌<◌}
 use native.Mathlib.Nat.{le_of_suc-le-suc, not-suc-le-zero, zero-add}
 use native.Mathlib.Numerals.{add-one}
 use native.Mathlib.Omega.{arith}
-use lib.ListN.{length, get_or, take, drop, drop_of_length-le, length-drop}
-use lib.Seq.{take_all, drop-drop}
+use lib.ListN.{length, get_or, take, drop, drop_of_length-le}
+use lib.Seq.{take_all}
+use borrow.Author.Tests.{ltb-false}
+use lib.Dec.{ltb}
+use Rattle.std.specs.Prelude.{None, Some, position}
+use Rattle.std.specs.List.{list_any, position_or_len}
+use Rattle.std.proofs.lemmas.List.Quantifiers.{position-Some}
+use Rattle.std.proofs.lemmas.List.Sums.{fails_before_first}
+use Rattle.std.proofs.lemmas.Option.{none-some}
 use Rattle.float.proofs.Tests.{neither}
 use Rattle.row.specs.Row.{first, any}
 
@@ -87,23 +94,6 @@ module _ {A : Type 0} (test : A → Bool) where
 
   -- ---- a block
 
-  -- a block without such a sample is passed whole
-  first_skip : (m : ℕ) (s : List A) → m ≤ length s → any test (take m s) ≡ false → first test s ≡ m + first test (drop m s)
-  unfolding first any
-  first_skip zero s h g = sym (zero-add (first test s))
-  first_skip (suc m) [] h g = absurd (not-suc-le-zero h)
-  first_skip (suc m) (x ∷ xs) h g =
-      let o = neither (test x) (any test (take m xs)) g in
-      let r = first_skip m xs (le_of_suc-le-suc h) o.1 in
-      simp o.0 (omega arith)
-
-  pub reach_block : (m : ℕ) (s : List A) (i : ℕ) → i + m ≤ length s → any test (take m (drop i s)) ≡ false
-      → first test s ≡ i + first test (drop i s) → first test s ≡ (i + m) + first test (drop (i + m) s)
-  reach_block m s i h g r =
-      let l : m ≤ length (drop i s) = simp length-drop (omega arith) in
-      let p : first test (drop i s) ≡ m + first test (drop (i + m) s) = first_skip m (drop i s) l g ∙ simp drop-drop in
-      omega arith
-
   pub none_yet : (s : List A) → false ≡ any test (take 0 s)
   unfolding any
   none_yet s = refl
@@ -130,8 +120,26 @@ module _ {A : Type 0} (test : A → Bool) where
   pub any_end : (s : List A) (i : ℕ) → length s ≤ i → any test (take i s) ≡ any test s
   any_end s i h = ap (any test) (take_all i s h)
 
--- a test that no sample passes
-pub first_never : {A : Type 0} (s : List A) → first (λ x. false) s ≡ length s
-unfolding first
-first_never [] = refl
-first_never (x ∷ xs) = ap suc (first_never xs)
+-- a block in which no sample passes is passed whole
+pub passed_block : {A : Type 0} (test : A → Bool) (m : ℕ) (s : List A) → m ≤ length s → list_any test (take m s) ≡ false
+    → position_or_len test s ≡ m + position_or_len test (drop m s)
+passed_block test zero s h g = sym (zero-add (position_or_len test s))
+passed_block test (suc m) [] h g = absurd (not-suc-le-zero h)
+passed_block test (suc m) (x ∷ xs) h g =
+    let o = neither (test x) (list_any test (take m xs)) g in
+    let r = passed_block test m xs (le_of_suc-le-suc h) o.1 in
+    simp o.0 (omega arith)
+
+-- what a position found says
+module _ {A : Type 0} (test : A → Bool) (s : List A) where
+  -- the one at the place that was found passes
+  pub found_passes : (i : ℕ) (d : A) → position test s ≡ Some i → test (get_or s i d) ≡ true
+  found_passes i d h = (position-Some test s i d h).1
+
+  -- where none was found, none passes
+  pub none_passes : (k : ℕ) (d : A) → position test s ≡ None → k < length s → test (get_or s k d) ≡ false
+  none_passes k d h l = let n = behind (ltb (position_or_len test s) (length s)) refl in fails_before_first test s k d (omega arith)
+    where
+      behind : (b : Bool) → ltb (position_or_len test s) (length s) ≡ b → length s ≤ position_or_len test s
+      behind true q = absurd (none-some (position_or_len test s) (sym h ∙ ap (λ b. cond b (Some (position_or_len test s)) None) q))
+      behind false q = ltb-false (position_or_len test s) (length s) q

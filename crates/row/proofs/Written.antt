@@ -24,7 +24,7 @@ still (x ∷ xs) [] i d h k = absurd (not-suc-le-zero k)
 still (x ∷ xs) (y ∷ ys) zero d h k = refl
 still (x ∷ xs) (y ∷ ys) (suc i) d h k = still xs ys i d (le_of_suc-le-suc h) (le_of_suc-le-suc k)
 
-mapped_at : {A B : Type 0} (f : A → B) (s : List A) (i : ℕ) (d : A) (z : B) → i < length s → get_or (map f s) i z ≡ f (get_or s i d)
+pub mapped_at : {A B : Type 0} (f : A → B) (s : List A) (i : ℕ) (d : A) (z : B) → i < length s → get_or (map f s) i z ≡ f (get_or s i d)
 mapped_at f [] i d z h = absurd (not-suc-le-zero h)
 mapped_at f (x ∷ xs) zero d z h = refl
 mapped_at f (x ∷ xs) (suc i) d z h = mapped_at f xs i d z (le_of_suc-le-suc h)

@@ -1,6 +1,7 @@
 -- Nothing in this file has to be believed: it says what private functions compute, and no public contract or theorem reaches it.
-use Rattle.std.specs.Prelude.{Bool, not, ◌&&◌, Float, ℕ, leb, ltb, pos}
+use Rattle.std.specs.Prelude.{Bool, true, false, not, ◌&&◌, Float, ℕ, leb, ltb, pos}
 use Rattle.std.specs.Float.{binary32}
+use Rattle.value.specs.Outcome.{Outcome, gives, refuses}
 use Rattle.std.specs.Float.Ieee.{to_bits, of_bits, of_int, to_unsigned, add, sub, eq}
 
 -- a u16 that no u8 has the number of
@@ -26,3 +27,8 @@ is_misfit x = not (leb (to_bits binary32 x) 0x477f_ff00 && is_whole x)
 -- the cast `x as u16`
 abbrev pub as_u16 : Float → ℕ
 as_u16 x = to_unsigned 16 x
+
+-- whether a sample is refused
+abbrev pub is_refused : {A : Type 0} → Outcome A → Bool
+is_refused (gives x) = false
+is_refused (refuses number place) = true

@@ -1,19 +1,33 @@
 // u16 to f32: every sample has its number in the other kind. RULES.md: Rows, Exact conversion.
-ghost use Rattle.std.specs.Prelude.{◌≡◌, map, length};
+#![tactic(auto, using(crate::proofs::IntoF32::u16_float))]
+
+ghost use Rattle.std.specs.Prelude.{◌≡◌};
 ghost use Rattle.row.specs.Row.{rowed_outcome};
 ghost use Rattle.row.specs.Convert.{u16_to_f32, convert_answer, convert_exit};
-ghost use Rattle.row.specs.Inner.{as_f32};
 
+use crate::conversion::{Conversion, convert};
 use value::Refusal;
 
-fn float_all(src: &[u16], dst: &mut [f32])
-    requires { length src.now ≡ length dst.old }
-    ensures { dst.new ≡ map as_f32 src.now }
-{
-    let mut i = 0;
-    while i < src.len() {
-        dst[i] = src[i] as f32;
-        i += 1;
+struct U16ToF32;
+
+impl Conversion for U16ToF32 {
+    type From = u16;
+
+    type To = f32;
+
+    ghost conversion = { u16_to_f32 };
+
+    fn is_refused(_x: u16) -> bool {
+        false
+    }
+
+    // No sample is refused.
+    fn number(_x: u16) -> u8 {
+        unreachable!()
+    }
+
+    fn converted(x: u16) -> f32 {
+        x as f32
     }
 }
 
@@ -21,12 +35,5 @@ pub fn u16_to_f32(src: &[u16], dst: &mut [f32]) -> Result<(), Refusal>
     ensures answer { rowed_outcome result ≡ convert_answer u16_to_f32 src.now dst.old }
     ensures exit { dst.new ≡ convert_exit u16_to_f32 src.now dst.old }
 {
-    if src.len() != dst.len() {
-        return Err(Refusal {
-            number: 9,
-            place: 0,
-        });
-    }
-    float_all(src, dst);
-    Ok(())
+    convert::<U16ToF32>(src, dst)
 }
