@@ -1,37 +1,43 @@
--- Numbers laid into bytes, low byte first, from the low byte up.
-use Rattle.std.proofs.Common.{◌≡◌, ℕ, zero, suc, ◌+◌, ◌-◌, ◌/◌, ◌%◌, ◌<◌, ◌≤◌, List, length, set, refl, ◌∙◌, add-one, arith, length-set, lt-length-set}
-use lib.Seq.{sets}
+-- Numbers laid into bytes, low byte first.
+use Rattle.std.specs.Int.{bytes_low_first, byte_at, to_le_bytes}
+use borrow.Rule.Slice.PartMut.{put_mid}
+use Rattle.std.proofs.Common.{◌≡◌, ℕ, zero, suc, ◌+◌, ◌*◌, ◌/◌, ◌%◌, ◌^◌, ◌<◌, ◌≤◌, List, [], ◌∷◌, ◌++◌, length, take, drop, set, sym, refl, ap, ◌∙◌, ◌-◌, add-one, arith, w64}
+use Rattle.std.proofs.Common.{append_assoc, le_of_suc-le-suc, not-suc-le-zero}
+use native.Mathlib.Nat.{div-div-eq-div-mul, div-one, pow-suc}
+use lib.Seq.{sets, sets-eq, drop-drop}
 use Rattle.bytewise.specs.Numbers.{little_endian}
+use Rattle.bytewise.proofs.LittleEndian.{length_little}
 
--- ---- writing: the bytes of `rest` are still to be laid down from `at` on
+-- ---- a number's own bytes
 
-module _ (old : List ℕ) (to width n : ℕ) where
-  abbrev pub Laying : List ℕ → ℕ → ℕ → ℕ → Type 0
-  Laying now at left rest = (at + left ≡ to + width) × (length now ≡ length old) × (sets now at (little_endian left rest) ≡ sets old to (little_endian width n))
+byte_is : (i n : ℕ) → byte_at i n ≡ n / 256 ^ i % 256
+byte_is zero n = ap (λ (m : ℕ). m % 256) (sym (div-one n))
+byte_is (suc i) n = refl
 
-  pub lay_step : (now : List ℕ) (at left rest : ℕ) → 0 < left → Laying now at left rest → Laying (set now at (rest % 256)) (at + 1) (left - 1) (rest / 256)
-  unfolding little_endian
-  lay_step now at zero rest some i = absurd (omega arith)
-  lay_step now at (suc left) rest some i = let e : suc left - 1 ≡ left = omega arith in
-      (omega (arith, i.0), length-set now at (rest % 256) ∙ i.1, rw (add-one at, e) i.2)
+-- the first w of the machine's bytes, from byte i on
+low_bytes : (w k i n : ℕ) → w ≤ k → take w (bytes_low_first i k n) ≡ little_endian w (n / 256 ^ i)
+unfolding little_endian
+low_bytes zero k i n h = refl
+low_bytes (suc w) zero i n h = absurd (not-suc-le-zero h)
+low_bytes (suc w) (suc k) i n h =
+    ap (λ (l : List ℕ). byte_at i n ∷ l) (low_bytes w k (suc i) n (le_of_suc-le-suc h))
+    ∙ rw (byte_is i n, pow-suc 256 i, ← div-div-eq-div-mul n (256 ^ i) 256) refl
 
-  pub lay_end : (now : List ℕ) (at left rest : ℕ) → left ≤ 0 → Laying now at left rest → now ≡ sets old to (little_endian width n)
-  unfolding little_endian
-  lay_end now at zero rest h i = i.2
-  lay_end now at (suc left) rest h i = absurd (omega arith)
+-- a part of a list, and what was laid over it
+over_is : (l part : List ℕ) (at k w : ℕ) → k ≡ w → length part ≡ w → at + w ≤ length l → put_mid at k l part ≡ sets l at part
+over_is l part at k w q size room =
+    let behind : drop k (drop at l) ≡ drop (at + length part) l = drop-drop k at l ∙ ap (λ (m : ℕ). drop m l) (omega (arith, size)) in
+    sym (sets-eq part l at (rw size room) ∙ append_assoc (take at l) part (drop (at + length part) l)
+    ∙ ap (λ (r : List ℕ). take at l ++ (part ++ r)) (sym behind))
+
+pub stored : (l part : List ℕ) (at w n : ℕ) → w ≤ 8 → at + w ≤ length l → part ≡ take w (to_le_bytes w64 n)
+    → put_mid at (at + w - at) l part ≡ sets l at (little_endian w n)
+stored l part at w n wide room q =
+    let own : part ≡ little_endian w n = q ∙ low_bytes w 8 0 n wide ∙ ap (little_endian w) (div-one n) in
+    let size : length part ≡ w = ap length own ∙ length_little w n in
+    over_is l part at (at + w - at) w (omega arith) size room ∙ ap (sets l at) own
 
 -- ---- numbers of two and four bytes
-
--- a place is still inside when one, two and three bytes are laid down
-pub past_one : (l : List ℕ) (j b : ℕ) {m : ℕ} → m < length l → m < length (set l j (b % 256))
-past_one l j b h = lt-length-set l j (b % 256) h
-
-pub past_two : (l : List ℕ) (j b : ℕ) {m : ℕ} → m < length l → m < length (set (set l j (b % 256)) (j + 1) (b / 256 % 256))
-past_two l j b h = lt-length-set (set l j (b % 256)) (j + 1) (b / 256 % 256) (past_one l j b h)
-
-pub past_three : (l : List ℕ) (j b : ℕ) {m : ℕ} → m < length l
-    → m < length (set (set (set l j (b % 256)) (j + 1) (b / 256 % 256)) (j + 2) (b / 256 / 256 % 256))
-past_three l j b h = lt-length-set (set (set l j (b % 256)) (j + 1) (b / 256 % 256)) (j + 2) (b / 256 / 256 % 256) (past_two l j b h)
 
 pub lay_two : (now : List ℕ) (j b : ℕ) → set (set now j (b % 256)) (j + 1) (b / 256 % 256) ≡ sets now j (little_endian 2 b)
 unfolding little_endian

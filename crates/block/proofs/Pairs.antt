@@ -82,7 +82,7 @@ pub widened_row : (xs ys : List ℕ) → length xs ≡ length ys →
     ((i : ℕ) → i < length xs → get_or xs i 0 < 2 ^ 8) → convert_exit u8_to_u16 xs ys ≡ map (λ (n : ℕ). n) xs
 widened_row xs ys same all = sym (always_done u8_to_u16 xs ys (λ n. n) (λ n. n < 2 ^ 8) 0 u8_wider same all (map (λ (n : ℕ). n) xs) refl).1
 
-numbers_one : (src : List ℕ) → numbers_in 1 (length src) src ≡ src
+pub numbers_one : (src : List ℕ) → numbers_in 1 (length src) src ≡ src
 unfolding numbers_in from_little_endian
 numbers_one [] = refl
 numbers_one (x ∷ xs) = rw (zero-add x, numbers_one xs) refl

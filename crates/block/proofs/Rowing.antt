@@ -9,7 +9,8 @@ use Rattle.value.specs.declared.Value.TheVariants.{U8}
 use Rattle.value.specs.Meaning.{value_of}
 use Rattle.value.specs.Outcome.{Outcome, gives, refuses, refuse_if, mapped, Success, done}
 use Rattle.value.proofs.Outcomes.{given_fills}
-use Rattle.row.specs.Row.{row_answer, row_results, sample_then, sample_before}
+use Rattle.std.proofs.Common.{false}
+use Rattle.row.specs.Row.{any, row_answer, row_results, sample_then, sample_before}
 use Rattle.row.specs.Convert.{convert_answer, convert_exit}
 use Rattle.row.proofs.ConvertRow.{always_done}
 use Rattle.value.specs.Kinds.{bytes_of}
@@ -29,6 +30,14 @@ map_same (x ∷ xs) = ap (λ (l : List ℕ). x ∷ l) (map_same xs)
 pub map_both : {A B C : Type 0} (g : B → C) (f : A → B) (l : List A) → map g (map f l) ≡ map (λ (x : A). g (f x)) l
 map_both g f [] = refl
 map_both {A} {B} {C} g f (x ∷ xs) = ap (λ (l : List C). g (f x) ∷ l) (map_both g f xs)
+
+pub map_three : {A B C D : Type 0} (h : C → D) (g : B → C) (f : A → B) (l : List A) → map h (map g (map f l)) ≡ map (λ (x : A). h (g (f x))) l
+map_three h g f l = ap (map h) (map_both g f l) ∙ map_both h (λ x. g (f x)) l
+
+pub any_never : {A : Type 0} (l : List A) → any (λ x. false) l ≡ false
+unfolding any
+any_never [] = refl
+any_never (x ∷ xs) = any_never xs
 
 -- ---- one conversion or the other, sample by sample
 

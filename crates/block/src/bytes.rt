@@ -5,16 +5,8 @@ ghost use Rattle.bytewise.specs.Numbers.{little_endian};
 
 // The last `width` bytes of n, from a place on.
 pub(crate) fn store(dst: &mut [u8], to: usize, width: usize, n: u64)
-    requires { to + width ≤ length dst.old }
+    requires { (width ≤ 8) × (to + width ≤ length dst.old) }
     ensures { dst.new ≡ sets dst.old to (little_endian width n) }
 {
-    let mut at = to;
-    let mut left = width;
-    let mut rest = n;
-    while left > 0 {
-        dst[at] = (rest % 256) as u8;
-        at += 1;
-        left -= 1;
-        rest = rest / 256;
-    }
+    dst[to..to + width].copy_from_slice(&n.to_le_bytes()[..width]);
 }

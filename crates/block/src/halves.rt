@@ -11,7 +11,8 @@ ghost use Rattle.block.specs.Output.{bytes_for};
 ghost use Rattle.block.specs.Migrate.{block_answer};
 ghost use Rattle.block.specs.Inner.{half_bits, block_exit};
 
-use crate::layouts::pair;
+use crate::bytes::store;
+use crate::layouts::Sample;
 use value::{Kind, Refusal};
 
 // Whether one of the first n samples is a NaN.
@@ -20,10 +21,8 @@ pub(crate) fn holds_nan(src: &[u8], n: usize) -> bool
     ensures { result ≡ any (nan_in f16) (numbers_in 2 n src.now) }
 {
     let mut found = false;
-    let mut i = 0;
-    while i < n {
-        found = found | float::is_nan_f16(pair(src[2 * i], src[2 * i + 1]));
-        i += 1;
+    for i in 0..n {
+        found |= float::is_nan_f16(u16::at(src, i));
     }
     found
 }
@@ -49,14 +48,9 @@ fn write_wide(t: &[u32; 1024], src: &[u8], n: usize, dst: &mut [u8])
     requires { Small t.now × (any (nan_in f16) (numbers_in 2 n src.now) ≡ false) × (2 * n ≤ length src.now) × (4 * n ≤ length dst.old) }
     ensures { dst.new ≡ sets dst.old 0 (bytes_for Kind.F32 (map half_bits (numbers_in 2 n src.now))) }
 {
-    let mut i = 0;
-    while i < n {
-        let r = wide_bits(t, pair(src[2 * i], src[2 * i + 1]));
-        dst[4 * i] = (r % 256) as u8;
-        dst[4 * i + 1] = (r / 256 % 256) as u8;
-        dst[4 * i + 2] = (r / 256 / 256 % 256) as u8;
-        dst[4 * i + 3] = (r / 256 / 256 / 256 % 256) as u8;
-        i += 1;
+    for i in 0..n {
+        let wide = wide_bits(t, u16::at(src, i));
+        store(dst, 4 * i, 4, u64::from(wide));
     }
 }
 

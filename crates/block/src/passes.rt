@@ -1,41 +1,40 @@
 // The samples of a block, one after the other: a pass that only looks, then a pass that writes. RULES.md: Migration.
 ghost use Rattle.std.specs.Prelude.{◌≡◌, ◌*◌, ◌≤◌, map, length};
 ghost use Rattle.std.proofs.lemmas.List.Edits.{sets};
-ghost use Rattle.row.specs.Row.{first};
+ghost use Rattle.row.specs.Row.{rowed_outcome};
 ghost use Rattle.value.specs.Kinds.{bytes_of};
 ghost use Rattle.sample.specs.Samples.{count_of, samples_of};
-ghost use Rattle.sample.specs.Refusals.{bits_to, refused_to};
+ghost use Rattle.sample.specs.Refusals.{bits_to};
 ghost use Rattle.block.specs.Output.{bytes_for};
+ghost use Rattle.block.specs.Migrate.{block_answer};
 ghost use Rattle.block.specs.Inner.{given_bits, moved_bits};
 
 use crate::bytes::store;
 use convert::convert;
-use sample::{is_refused, sample_at};
-use value::{Kind, Value, bits_of, bytes_of};
+use sample::sample_at;
+use value::{Kind, Refusal, Value, bits_of, bytes_of};
 
-// The index of the first of the n samples that is refused, or n.
-pub(crate) fn first_refused(from: Kind, to: Kind, src: &[u8], n: usize) -> usize
+// The first of the n samples that is refused, by its index.
+pub(crate) fn check_samples(from: Kind, to: Kind, src: &[u8], n: usize) -> Result<(), Refusal>
     requires { n ≡ count_of from src.now }
-    ensures { result ≡ first (refused_to to) (samples_of from src.now) }
+    ensures { rowed_outcome result ≡ block_answer from to src.now }
 {
-    let mut i = 0;
-    while i < n {
-        if is_refused(sample_at(from, src, i), to) {
-            return i;
+    for i in 0..n {
+        if let Err(f) = convert(sample_at(from, src, i), to) {
+            return Err(Refusal {
+                number: f.number,
+                place: i,
+            });
         }
-        i += 1;
     }
-    i
+    Ok(())
 }
 
 // The bits of a sample's conversion; 0 where it is refused.
 fn bits_to(v: Value, to: Kind) -> u64
     ensures { result ≡ given_bits (bits_to to v) }
 {
-    match convert(v, to) {
-        Ok(w) => bits_of(w),
-        Err(_) => 0,
-    }
+    convert(v, to).map_or(0, |w| bits_of(w))
 }
 
 // Lays the conversions of the n samples into dst.
@@ -44,11 +43,12 @@ pub(crate) fn write_samples(from: Kind, to: Kind, src: &[u8], n: usize, dst: &mu
     ensures { dst.new ≡ sets dst.old 0 (bytes_for to (map (moved_bits to) (samples_of from src.now))) }
 {
     let width = bytes_of(to);
-    let mut i = 0;
-    let mut place = 0;
-    while i < n {
-        store(dst, place, width, bits_to(sample_at(from, src, i), to));
-        i += 1;
-        place += width;
+    for at in 0..n {
+        store(
+            dst,
+            at * width,
+            width,
+            bits_to(sample_at(from, src, at), to),
+        );
     }
 }

@@ -1,56 +1,85 @@
 // Blocks of the pairs that convert as rows: the samples are laid out as a row, the row call decides, and what it gave is laid into bytes.
 // Two pairs refuse no sample: their blocks are converted by rows of 16 places, which the compiler keeps in registers, each laid down at once. The
 // others have one row for the whole block, so that a refusal leaves the buffer alone. RULES.md: Migration, Rows.
-ghost use Rattle.std.specs.Prelude.{◌≡◌, ℕ, ◌+◌, ◌*◌, ◌/◌, ◌%◌, ◌<◌, ◌≤◌, map, length};
+ghost use Rattle.std.specs.Prelude.{◌≡◌, ℕ, ◌+◌, ◌*◌, ◌/◌, ◌≤◌, false, map, length, drop};
 ghost use Rattle.std.proofs.lemmas.List.Edits.{sets};
-ghost use Rattle.row.specs.Row.{rowed_outcome};
+ghost use Rattle.row.specs.Row.{any, rowed_outcome};
+ghost use Rattle.row.specs.Inner.{as_f32};
 ghost use Rattle.value.specs.Kinds.{bytes_of};
 ghost use Rattle.sample.specs.Samples.{count_of, numbers_in};
 ghost use Rattle.block.specs.Output.{bytes_for};
 ghost use Rattle.block.specs.Migrate.{block_answer, row_places};
-ghost use Rattle.block.specs.Inner.{block_exit, floated_bits};
+ghost use Rattle.block.specs.Inner.{block_exit};
 
 use crate::ROW_PLACES;
-use crate::layouts::{load_f32s, load_u16s, store_f32s, store_u16s};
+use crate::layouts::{Sample, load, store_row};
 use value::{Kind, Refusal};
 
-// u8 to u16 by a row that has a place for each sample; its bytes from a place on.
-fn widen_row(src: &[u8], wide: &mut [u16], dst: &mut [u8], at: usize)
-    requires { (length src.now ≡ length wide.old) × (at + 2 * length src.now ≤ length dst.old) }
-    ensures { dst.new ≡ sets dst.old at (bytes_for Kind.U16 (map (λ (n : ℕ). n) src.now)) }
-{
-    let _ = row::u8_to_u16(src, wide);
-    store_u16s(wide, dst, at);
+// A pair that refuses no sample, by its row call.
+trait Pair {
+    type From: Sample;
+
+    type To: Sample;
+
+    ghost moved: { Self.From → Self.To };
+
+    fn convert(from: &[Self::From], to: &mut [Self::To])
+        requires { length from.now ≡ length to.old }
+        ensures row { to.new ≡ map moved from.now }
+        ensures numbers { any Self.To.is_none to.new ≡ false };
 }
 
-// Rows of 16 samples, one after the other.
-fn widen_full(src: &[u8], wide: &mut [u16], dst: &mut [u8])
-    requires { (length src.now % 16 ≡ 0) × (length wide.old ≡ 16) × (2 * length src.now ≤ length dst.old) }
-    ensures { dst.new ≡ sets dst.old 0 (bytes_for Kind.U16 (map (λ (n : ℕ). n) src.now)) }
-{
-    let mut i = 0;
-    while i < src.len() {
-        widen_row(&src[i..i + 16], wide, dst, 2 * i);
-        i += 16;
+struct Widen;
+
+impl Pair for Widen {
+    type From = u8;
+
+    type To = u16;
+
+    ghost moved = { λ n. n };
+
+    fn convert(from: &[u8], to: &mut [u16]) {
+        let _ = row::u8_to_u16(from, to);
     }
 }
 
-// The samples behind them.
-fn widen_rest(src: &[u8], dst: &mut [u8], at: usize)
-    requires { (length src.now < 16) × (at + 2 * length src.now ≤ length dst.old) }
-    ensures { dst.new ≡ sets dst.old at (bytes_for Kind.U16 (map (λ (n : ℕ). n) src.now)) }
-{
-    let mut wide = [0u16; 16];
-    widen_row(src, &mut wide[..src.len()], dst, at);
+struct Float;
+
+impl Pair for Float {
+    type From = u16;
+
+    type To = f32;
+
+    ghost moved = { as_f32 };
+
+    fn convert(from: &[u16], to: &mut [f32]) {
+        let _ = row::u16_to_f32(from, to);
+    }
 }
 
-fn widen_rows(src: &[u8], wide: &mut [u16], dst: &mut [u8])
-    requires { (length wide.old ≡ 16) × (2 * length src.now ≤ length dst.old) }
-    ensures { dst.new ≡ sets dst.old 0 (bytes_for Kind.U16 (map (λ (n : ℕ). n) src.now)) }
+// As many samples as the two rows have places, from a sample on.
+fn one_row<P: Pair>(src: &[u8], i: usize, from: &mut [P::From], to: &mut [P::To], dst: &mut [u8])
+    requires { (P.From.WIDTH * i + P.From.WIDTH * length from.old ≤ length src.now) × (length from.old ≡ length to.old)
+        × (P.To.WIDTH * i + P.To.WIDTH * length from.old ≤ length dst.old) }
+    ensures { dst.new ≡ sets dst.old (P.To.WIDTH * i)
+        (bytes_for P.To.kind (map (λ b. P.To.bits (P.moved (P.From.of_bits b))) (numbers_in P.From.WIDTH (length from.old) (drop (P.From.WIDTH * i) src.now)))) }
 {
-    let end = src.len() - src.len() % 16;
-    widen_full(&src[..end], wide, dst);
-    widen_rest(&src[end..], dst, 2 * end);
+    load(&src[P::From::WIDTH * i..], from);
+    P::convert(from, to);
+    store_row(to, dst, P::To::WIDTH * i);
+}
+
+// Rows of 16 samples, one after the other, and the samples behind them.
+fn by_rows<P: Pair>(src: &[u8], n: usize, from: &mut [P::From], to: &mut [P::To], dst: &mut [u8])
+    requires { (length from.old ≡ 16) × (length to.old ≡ 16) × (P.From.WIDTH * n ≤ length src.now) × (P.To.WIDTH * n ≤ length dst.old) }
+    ensures { dst.new ≡ sets dst.old 0 (bytes_for P.To.kind (map (λ b. P.To.bits (P.moved (P.From.of_bits b))) (numbers_in P.From.WIDTH n src.now))) }
+{
+    let rows = n / 16;
+    for r in 0..rows {
+        one_row::<P>(src, 16 * r, from, to, dst);
+    }
+    let rest = n % 16;
+    one_row::<P>(src, 16 * rows, &mut from[..rest], &mut to[..rest], dst);
 }
 
 pub(crate) fn widened(src: &[u8], dst: &mut [u8]) -> Result<(), Refusal>
@@ -58,51 +87,8 @@ pub(crate) fn widened(src: &[u8], dst: &mut [u8]) -> Result<(), Refusal>
     ensures answer { rowed_outcome result ≡ block_answer Kind.U8 Kind.U16 src.now }
     ensures exit { dst.new ≡ block_exit Kind.U8 Kind.U16 src.now dst.old }
 {
-    let mut wide = [0u16; 16];
-    widen_rows(src, &mut wide, dst);
+    by_rows::<Widen>(src, src.len(), &mut [0; 16], &mut [0; 16], dst);
     Ok(())
-}
-
-// u16 to f32 by two rows that have a place for each sample; their bytes from a place on.
-fn float_row(src: &[u8], wide: &mut [u16], reals: &mut [f32], dst: &mut [u8], at: usize)
-    requires { (2 * length wide.old ≤ length src.now) × (length wide.old ≡ length reals.old) × (at + 4 * length wide.old ≤ length dst.old) }
-    ensures { dst.new
-        ≡ sets dst.old at (bytes_for Kind.F32 (map floated_bits (numbers_in 2 (length wide.old) src.now))) }
-{
-    load_u16s(src, wide);
-    let _ = row::u16_to_f32(wide, reals);
-    store_f32s(reals, dst, at);
-}
-
-// As with u8: rows of 16 samples, and the samples behind them.
-fn float_full(src: &[u8], samples: usize, wide: &mut [u16], reals: &mut [f32], dst: &mut [u8])
-    requires { (samples % 16 ≡ 0) × (length wide.old ≡ 16) × (length reals.old ≡ 16)
-        × (2 * samples ≤ length src.now) × (4 * samples ≤ length dst.old) }
-    ensures { dst.new ≡ sets dst.old 0 (bytes_for Kind.F32 (map floated_bits (numbers_in 2 samples src.now))) }
-{
-    let mut i = 0;
-    while i < samples {
-        float_row(&src[2 * i..], wide, reals, dst, 4 * i);
-        i += 16;
-    }
-}
-
-fn float_rest(src: &[u8], samples: usize, dst: &mut [u8], at: usize)
-    requires { (samples < 16) × (2 * samples ≤ length src.now) × (at + 4 * samples ≤ length dst.old) }
-    ensures { dst.new ≡ sets dst.old at (bytes_for Kind.F32 (map floated_bits (numbers_in 2 samples src.now))) }
-{
-    let mut wide = [0u16; 16];
-    let mut reals = [0.0f32; 16];
-    float_row(src, &mut wide[..samples], &mut reals[..samples], dst, at);
-}
-
-fn float_rows(src: &[u8], samples: usize, wide: &mut [u16], reals: &mut [f32], dst: &mut [u8])
-    requires { (length wide.old ≡ 16) × (length reals.old ≡ 16) × (2 * samples ≤ length src.now) × (4 * samples ≤ length dst.old) }
-    ensures { dst.new ≡ sets dst.old 0 (bytes_for Kind.F32 (map floated_bits (numbers_in 2 samples src.now))) }
-{
-    let end = samples - samples % 16;
-    float_full(src, end, wide, reals, dst);
-    float_rest(&src[2 * end..], samples - end, dst, 4 * end);
 }
 
 pub(crate) fn floated(src: &[u8], n: usize, dst: &mut [u8]) -> Result<(), Refusal>
@@ -110,55 +96,34 @@ pub(crate) fn floated(src: &[u8], n: usize, dst: &mut [u8]) -> Result<(), Refusa
     ensures answer { rowed_outcome result ≡ block_answer Kind.U16 Kind.F32 src.now }
     ensures exit { dst.new ≡ block_exit Kind.U16 Kind.F32 src.now dst.old }
 {
-    let mut wide = [0u16; 16];
-    let mut reals = [0.0f32; 16];
-    float_rows(src, n, &mut wide, &mut reals, dst);
+    by_rows::<Float>(src, n, &mut [0; 16], &mut [0.0; 16], dst);
     Ok(())
 }
 
 // u16 to u8: the front of the buffer is the second row.
-fn narrow_row(src: &[u8], wide: &mut [u16], dst: &mut [u8]) -> Result<(), Refusal>
-    requires { (length wide.old ≡ count_of Kind.U16 src.now) × (length wide.old ≤ length dst.old) }
-    ensures answer { rowed_outcome result ≡ block_answer Kind.U16 Kind.U8 src.now }
-    ensures exit { dst.new ≡ block_exit Kind.U16 Kind.U8 src.now dst.old }
-{
-    load_u16s(src, wide);
-    row::u16_to_u8(wide, &mut dst[..wide.len()])
-}
-
 pub(crate) fn narrowed(src: &[u8], n: usize, dst: &mut [u8]) -> Result<(), Refusal>
     requires { (n ≡ count_of Kind.U16 src.now) × (n ≤ length dst.old / bytes_of Kind.U8) × (n ≤ row_places) }
     ensures answer { rowed_outcome result ≡ block_answer Kind.U16 Kind.U8 src.now }
     ensures exit { dst.new ≡ block_exit Kind.U16 Kind.U8 src.now dst.old }
 {
-    let mut wide = [0u16; ROW_PLACES];
-    narrow_row(src, &mut wide[..n], dst)
+    let mut places = [0u16; ROW_PLACES];
+    let wide = &mut places[..n];
+    load(src, wide);
+    row::u16_to_u8(wide, &mut dst[..wide.len()])
 }
 
-// f32 to u16, by way of two rows that have a place for each sample.
-fn whole_row(src: &[u8], reals: &mut [f32], wide: &mut [u16], dst: &mut [u8]) -> Result<(), Refusal>
-    requires { (length reals.old ≡ count_of Kind.F32 src.now) × (length reals.old ≡ length wide.old)
-        × (length reals.old ≤ length dst.old / bytes_of Kind.U16) }
-    ensures answer { rowed_outcome result ≡ block_answer Kind.F32 Kind.U16 src.now }
-    ensures exit { dst.new ≡ block_exit Kind.F32 Kind.U16 src.now dst.old }
-{
-    load_f32s(src, reals);
-    let r = row::f32_to_u16(reals, wide);
-    match r {
-        Ok(()) => {
-            store_u16s(wide, dst, 0);
-            Ok(())
-        }
-        Err(_) => r,
-    }
-}
-
+// f32 to u16.
 pub(crate) fn made_whole(src: &[u8], n: usize, dst: &mut [u8]) -> Result<(), Refusal>
     requires { (n ≡ count_of Kind.F32 src.now) × (n ≤ length dst.old / bytes_of Kind.U16) × (n ≤ row_places) }
     ensures answer { rowed_outcome result ≡ block_answer Kind.F32 Kind.U16 src.now }
     ensures exit { dst.new ≡ block_exit Kind.F32 Kind.U16 src.now dst.old }
 {
-    let mut reals = [0.0f32; ROW_PLACES];
-    let mut wide = [0u16; ROW_PLACES];
-    whole_row(src, &mut reals[..n], &mut wide[..n], dst)
+    let mut places = [0.0f32; ROW_PLACES];
+    let reals = &mut places[..n];
+    load(src, reals);
+    let mut room = [0u16; ROW_PLACES];
+    let wide = &mut room[..n];
+    row::f32_to_u16(reals, wide)?;
+    store_row(wide, dst, 0);
+    Ok(())
 }

@@ -16,6 +16,10 @@ use Rattle.strip.specs.Inner.{shifted_of}
 abbrev pub gap : ℕ → ℕ → ℕ
 gap m n = cond (ltb m n) (n - m) (m - n)
 
+-- as the machine says it
+pub gap_is : (m n : ℕ) → (m - n) + (n - m) ≡ gap m n
+gap_is m n = elim (lt_or_ge m n) [ inl l ↦ rw (lt-ltb m n l) (omega arith) | inr g ↦ rw (le-ltb m n g) (omega arith) ]
+
 gap_up : (m n : ℕ) {d : ℕ} → m + d ≡ n → d ≡ gap m n
 gap_up m n h = elim (lt_or_ge m n) [ inl l ↦ rw (lt-ltb m n l) (omega arith) | inr g ↦ rw (le-ltb m n g) (omega arith) ]
 

@@ -1,9 +1,12 @@
 -- The lowest and the highest sample, by places. A NaN's place is the end, which passes the test against no place, so a step goes only to the
 -- place of a number; every number's place passes the test against the end, so the end is where nothing was found.
 use Rattle.std.specs.Prelude.{Option, None, Some}
-use Rattle.std.proofs.Common.{◌≡◌, ℕ, ◌+◌, ◌-◌, ◌*◌, ◌^◌, ◌<◌, ◌≤◌, Bool, true, false, cond, not, ◌&&◌, ◌⊎◌, List, [], ◌∷◌, ◌++◌, take, drop, ℤ, pos}
-use Rattle.std.proofs.Common.{negsuc, refl, ap, ◌∙◌, subst, inl, inr, le_antisymm, add-one, arith, lit<, w32, SFits, to_z, of_z, ltb-false, le-ltb}
+use Rattle.std.proofs.Common.{◌≡◌, ℕ, ◌+◌, ◌-◌, ◌^◌, ◌<◌, Bool, true, false, cond, not, ◌&&◌, ◌⊎◌, List, [], ◌∷◌, ◌++◌, take, ℤ, pos}
+use Rattle.std.proofs.Common.{negsuc, refl, ap, ◌∙◌, subst, inl, inr, arith, lit<, w32, SFits, to_z, of_z, ltb-false, le-ltb}
 use Rattle.std.proofs.Common.{lt-ltb}
+use Rattle.std.proofs.Common.{ltb, length, get_or}
+use Rattle.std.specs.Int.{int_min, int_max}
+use Rattle.float.proofs.Naturals.{three_ways}
 use mathlib.Core.Bool.{and-eq-true_iff}
 use borrow.Author.Tests.{not-true}
 use lib.Signed.{mag, lt_z}
@@ -11,10 +14,9 @@ use mir.ValLaws.{to_z-of_z}
 use Rattle.float.specs.Format.{inf_of, abs_of, nan_of, position_of}
 use Rattle.float.proofs.Place.{pattern_at, pattern_position, mag_position}
 use Rattle.bytewise.specs.Numbers.{from_little_endian}
-use Rattle.sample.specs.Samples.{numbers_in}
-use Rattle.sample.proofs.Samplings.{numbers_last}
 use Rattle.strip.specs.Sheet.{extreme_of}
-use Rattle.strip.specs.Inner.{top_end, bottom_end, place_of, farthest_from, gt_z, bits_at, start_at, found_at}
+use Rattle.strip.specs.Inner.{all_bits, top_end, bottom_end, place_of, farthest_from, gt_z, bits_at, start_at, found_at}
+use Rattle.strip.proofs.Counting.{bits_last}
 
 -- ---- places
 
@@ -73,30 +75,51 @@ unfolding farthest_from
 farthest_last test end m [] b q = rw q refl
 farthest_last test end m (x ∷ bs) b q = farthest_last test end (cond (test (place_of end x) m) (place_of end x) m) bs b q
 
--- a loop over n samples after i of them
-pub record SoFar (test : ℤ → ℤ → Bool) (end start : ℤ) (src : List ℕ) (n : ℕ) (m : ℤ) (i : ℕ) : Type 0 where
-  pub within : i ≤ n
-  far : m ≡ farthest_from test end start (numbers_in 4 i src)
+-- the larger of two places, from either side
+larger_above : (a b : ℕ) → cond (ltb b a) (pos a) (pos b) ≡ cond (ltb a b) (pos b) (pos a)
+larger_above a b = elim (three_ways a b) [
+  | inl l ↦ rw (lt-ltb a b l, le-ltb b a (omega arith)) refl
+  | inr (inl q) ↦ rw (q, le-ltb b b (omega arith)) refl
+  | inr (inr g) ↦ rw (lt-ltb b a g, le-ltb a b (omega arith)) refl
+]
 
-module _ {test : ℤ → ℤ → Bool} {end start : ℤ} {src : List ℕ} {n i : ℕ} {m : ℤ} where
-  -- the machine reads each signed number back from its word
-  pub so_far_next : {b : ℕ} {place r : ℤ} → SoFar test end start src n m i → i < n
-      → b ≡ from_little_endian (take 4 (drop (i * 4) src)) → place ≡ place_of end b → SFits w32 place → SFits w32 r
-      → r ≡ (let z = to_z w32 (of_z w32 place) in cond (test z m) z m)
-      → SoFar test end start src n (to_z w32 (of_z w32 r)) (i + 1)
-  so_far_next {b} {place} {r} s h word at f g q = record {
-    within = omega arith;
-    far = rw (to_z-of_z w32 r g, q, to_z-of_z w32 place f, at, word, add-one i, numbers_last 4 i src)
-        (farthest_last test end start (numbers_in 4 i src) _ s.far);
-  }
+larger_below : (a b : ℕ) → cond (ltb a b) (negsuc a) (negsuc b) ≡ cond (ltb b a) (negsuc b) (negsuc a)
+larger_below a b = elim (three_ways a b) [
+  | inl l ↦ rw (lt-ltb a b l, le-ltb b a (omega arith)) refl
+  | inr (inl q) ↦ rw (q, le-ltb b b (omega arith)) refl
+  | inr (inr g) ↦ rw (lt-ltb b a g, le-ltb a b (omega arith)) refl
+]
 
-  pub so_far_all : SFits w32 start → SoFar test end (to_z w32 (of_z w32 start)) src n m i → n ≤ i
-      → m ≡ farthest_from test end start (numbers_in 4 n src)
-  so_far_all f s h = rw (to_z-of_z w32 start f, le_antisymm s.within h) at s.far
+max_is : (m z : ℤ) → int_max m z ≡ cond (gt_z z m) z m
+max_is (pos a) (pos b) = larger_above a b
+max_is (pos a) (negsuc b) = refl
+max_is (negsuc a) (pos b) = refl
+max_is (negsuc a) (negsuc b) = larger_below a b
 
-pub so_far_start : {test : ℤ → ℤ → Bool} {end start : ℤ} {src : List ℕ} {n : ℕ} → SoFar test end start src n start 0
-unfolding farthest_from numbers_in
-so_far_start = record { within = omega arith; far = refl }
+-- a loop over samples after i of them
+module _ (test : ℤ → ℤ → Bool) (end start : ℤ) (samples : List (List ℕ)) where
+  abbrev pub SoFar : ℤ → ℕ → Type 0
+  SoFar m i = m ≡ farthest_from test end start (take i (all_bits samples))
+
+  pub so_far_start : SoFar start 0
+  unfolding farthest_from
+  so_far_start = refl
+
+  so_far_next : {i : ℕ} {m : ℤ} {b : ℕ} → SoFar m i → i < length (all_bits samples) → b ≡ from_little_endian (get_or samples i [])
+      → SoFar (cond (test (place_of end b) m) (place_of end b) m) (i + 1)
+  so_far_next {i} s h word = rw (word, bits_last samples i h) (farthest_last test end start (take i (all_bits samples)) _ s)
+
+-- the machine reads each signed number back from its word
+module _ (start : ℤ) (samples : List (List ℕ)) {i : ℕ} {m : ℤ} {b : ℕ} (h : i < length (all_bits samples))
+    (word : b ≡ from_little_endian (get_or samples i [])) {place r : ℤ} (f : SFits w32 place) (g : SFits w32 r) where
+  pub lowest_next : SoFar lt_z top_end start samples m i → place ≡ place_of top_end b → r ≡ int_min m (to_z w32 (of_z w32 place))
+      → SoFar lt_z top_end start samples (to_z w32 (of_z w32 r)) (i + 1)
+  lowest_next s at q = rw (to_z-of_z w32 r g, q, to_z-of_z w32 place f, at) (so_far_next lt_z top_end start samples s h word)
+
+  pub highest_next : SoFar gt_z bottom_end start samples m i → place ≡ place_of bottom_end b → r ≡ int_max m (to_z w32 (of_z w32 place))
+      → SoFar gt_z bottom_end start samples (to_z w32 (of_z w32 r)) (i + 1)
+  highest_next s at q =
+      rw (to_z-of_z w32 r g, q, to_z-of_z w32 place f, at, max_is m (place_of bottom_end b)) (so_far_next gt_z bottom_end start samples s h word)
 
 -- ---- the sample that is found
 

@@ -1,13 +1,13 @@
+pub mod Words
 pub mod Counting
-pub mod Farthest
 pub mod Tallying
+pub mod Farthest
 pub mod Extremes
 pub mod Blocks
 pub mod Classes
 pub mod Told
 pub mod Apart
 pub mod Pairs
-pub mod Differing
 pub mod Largest
 pub mod Firsts
 pub mod Compared

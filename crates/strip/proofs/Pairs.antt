@@ -1,11 +1,7 @@
 -- The places that two lists share: as many as the shorter one has, the one at an index by the two samples there, and joined where the lists are.
-use Rattle.std.proofs.Common.{◌≡◌, ℕ, zero, suc, ◌*◌, ◌<◌, ◌≤◌, min, max, List, [], ◌∷◌, ◌++◌, length, get_or, take, drop, sym, refl, ap, ◌∙◌}
-use Rattle.std.proofs.Common.{le_of_suc-le-suc, not-suc-le-zero, arith, take_all}
-use Rattle.bytewise.specs.Numbers.{from_little_endian}
-use Rattle.sample.specs.Samples.{numbers_in}
-use Rattle.sample.proofs.Samplings.{length_numbers, number_here, numbers_last, numbers_take}
+use Rattle.std.proofs.Common.{◌≡◌, ℕ, zero, suc, ◌<◌, ◌≤◌, min, max, List, [], ◌∷◌, ◌++◌, length, get_or, take, refl, ap, ◌∙◌}
+use Rattle.std.proofs.Common.{le_of_suc-le-suc, not-suc-le-zero, arith}
 use Rattle.strip.specs.Difference.{Pair, distance, shared, widest_of}
-use Rattle.strip.specs.Inner.{pairs_in}
 
 -- ---- two lists
 
@@ -57,40 +53,6 @@ pub none_shared : (a : List ℕ) → shared a [] ≡ []
 unfolding shared
 none_shared [] = refl
 none_shared (x ∷ a) = refl
-
--- ---- the places of two blocks
-
-module _ (left right : List ℕ) where
-  -- the samples at an index
-  abbrev pub pair_at : ℕ → Pair
-  pair_at i = record { left = from_little_endian (take 4 (drop (i * 4) left)); right = from_little_endian (take 4 (drop (i * 4) right)) }
-
-  pub no_pairs : pairs_in 0 left right ≡ []
-  unfolding shared numbers_in
-  no_pairs = refl
-
-  pub length_pairs : (n : ℕ) → length (pairs_in n left right) ≡ n
-  length_pairs n = shared_count (numbers_in 4 n left) (numbers_in 4 n right) ∙ rw (length_numbers 4 n left, length_numbers 4 n right) (omega arith)
-
-  pub pairs_last : (i : ℕ) → pairs_in (suc i) left right ≡ pairs_in i left right ++ (pair_at i ∷ [])
-  unfolding shared
-  pairs_last i =
-      rw (numbers_last 4 i left, numbers_last 4 i right)
-      (shared_joined (numbers_in 4 i left) _ (numbers_in 4 i right) _ (length_numbers 4 i left ∙ sym (length_numbers 4 i right)))
-
-  pub pair_here : (n i : ℕ) (d : Pair) → i < n → get_or (pairs_in n left right) i d ≡ pair_at i
-  pair_here n i d h =
-      shared_place (numbers_in 4 n left) (numbers_in 4 n right) i d (rw (length_pairs n) h)
-      ∙ rw (number_here 4 n left i 0 h, number_here 4 n right i 0 h) refl
-
-  -- of so many samples of the one and so many of the other
-  pub pairs_shared : (m k : ℕ) → pairs_in (min m k) left right ≡ shared (numbers_in 4 m left) (numbers_in 4 k right)
-  pairs_shared m k =
-      let n = min m k in
-      let many : length (shared (numbers_in 4 m left) (numbers_in 4 k right)) ≡ n =
-      shared_count (numbers_in 4 m left) (numbers_in 4 k right) ∙ rw (length_numbers 4 m left, length_numbers 4 k right) refl in
-      rw (← numbers_take 4 m n left (omega arith), ← numbers_take 4 k n right (omega arith), shared_take n (numbers_in 4 m left) (numbers_in 4 k right))
-      (take_all n _ (omega (arith, many)))
 
 -- ---- the largest distance
 

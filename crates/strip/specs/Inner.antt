@@ -1,10 +1,14 @@
--- None in this file has to be believed: it says what private functions compute, and no public contract or theorem reaches it.
-use Rattle.std.specs.Prelude.{ℕ, ◌+◌, ◌-◌, Bool, cond, List, [], ◌∷◌, ℤ, pos, negsuc, int_lt, nat_lt, Option, None, Some}
+-- Nothing in this file has to be believed: it says what private functions compute, and no public contract or theorem reaches it.
+use Rattle.std.specs.Prelude.{ℕ, ◌+◌, ◌-◌, Bool, cond, List, [], ◌∷◌, map, ℤ, pos, negsuc, int_lt, nat_lt, Option, None, Some}
 use Rattle.float.specs.Format.{f32, zero_in, subnormal_in, normal_in, infinite_in, nan_in, position_in}
 use Rattle.row.specs.Row.{how_many}
-use Rattle.sample.specs.Samples.{numbers_in}
+use Rattle.bytewise.specs.Numbers.{from_little_endian}
 use Rattle.strip.specs.declared.tallies.Tally.{Tally}
-use Rattle.strip.specs.Difference.{Pair, shared}
+use Rattle.strip.specs.Difference.{Pair, is_different, distance}
+
+-- the bits of samples of four bytes
+abbrev pub all_bits : List (List ℕ) → List ℕ
+all_bits samples = map from_little_endian samples
 
 -- the two ends of all positions, where only NaN are
 abbrev pub top_end : ℤ
@@ -59,6 +63,12 @@ found_at None some m = cond some (Some (bits_at m)) None
 abbrev pub shifted_of : ℕ → ℕ
 shifted_of b = cond (nat_lt b 2147483648) (b + 2147483648) (4294967295 - b)
 
--- the first n places of two blocks
-abbrev pub pairs_in : ℕ → List ℕ → List ℕ → List Pair
-pairs_in n left right = shared (numbers_in 4 n left) (numbers_in 4 n right)
+-- the samples at a place, as they stand in two blocks
+abbrev pub pair_of : List ℕ × List ℕ → Pair
+pair_of p = record { left = from_little_endian p.0; right = from_little_endian p.1 }
+
+abbrev pub differ : List ℕ × List ℕ → Bool
+differ p = is_different (pair_of p)
+
+abbrev pub far : List ℕ × List ℕ → ℕ
+far p = distance (pair_of p)

@@ -1,14 +1,12 @@
-// A block of samples, told behind what was told before it. One plain loop over the bytes, without a branch, which is compiled to vector code.
-ghost use Rattle.std.specs.Prelude.{◌≡◌, ◌*◌, ◌%◌, ◌≤◌, length, if◌then◌else◌, int_lt, nat_le};
+// A block of samples, told behind what was told before it. One plain loop over the samples, without a branch, which is compiled to vector code.
+ghost use Rattle.std.specs.Prelude.{◌≡◌, ◌%◌, ◌≤◌, length, if◌then◌else◌, nat_le};
 ghost use Rattle.float.specs.Format.{f32, zero_in, subnormal_in, normal_in};
-ghost use Rattle.sample.specs.Samples.{numbers_in};
 ghost use Rattle.strip.specs.Sheet.{most, sheet_after};
-ghost use Rattle.strip.specs.Inner.{tally_of, place_of, gt_z, start_at, bits_at, found_at};
+ghost use Rattle.strip.specs.Inner.{all_bits, tally_of, place_of, start_at, bits_at, found_at};
 
-use crate::samples::{one_if, taken, word_at};
+use crate::samples::{bits_of, taken};
 use crate::{MOST, Sheet};
 use float::{abs_f32, is_infinite_f32, is_nan_f32, position_f32};
-use std::num::wrapping_add_u64;
 
 // What a block has: how many samples of each class, and the lowest and the highest position. It has fewer than 2^32 samples.
 #[derive(Clone, Copy)]
@@ -57,22 +55,10 @@ fn place_of(bits: u32, end: i32) -> i32
 
 // ---- all samples
 
-fn lesser(x: i32, y: i32) -> i32
-    ensures { result ≡ (if int_lt x y then x else y) }
-{
-    if x < y { x } else { y }
-}
-
-fn greater(x: i32, y: i32) -> i32
-    ensures { result ≡ (if gt_z x y then x else y) }
-{
-    if y < x { x } else { y }
-}
-
-// The first n samples, the lowest and the highest from two positions on.
-fn go_over(src: &[u8], n: usize, lowest: i32, highest: i32) -> Tally
-    requires { (n ≤ most) × (4 * n ≤ length src.now) }
-    ensures { result ≡ tally_of lowest highest (numbers_in 4 n src.now) }
+// The lowest and the highest are from two positions on.
+fn go_over(samples: &[[u8; 4]], lowest: i32, highest: i32) -> Tally
+    requires { length samples.now ≤ most }
+    ensures { result ≡ tally_of lowest highest (all_bits samples.now) }
 {
     let mut zero = 0;
     let mut subnormal = 0;
@@ -81,17 +67,15 @@ fn go_over(src: &[u8], n: usize, lowest: i32, highest: i32) -> Tally
     let mut nan = 0;
     let mut low = lowest;
     let mut high = highest;
-    let mut i = 0;
-    while i < n {
-        let bits = word_at(src, i);
-        zero += one_if(is_zero(bits));
-        subnormal += one_if(is_subnormal(bits));
-        normal += one_if(is_normal(bits));
-        infinite += one_if(is_infinite_f32(bits));
-        nan += one_if(is_nan_f32(bits));
-        low = lesser(place_of(bits, i32::MAX), low);
-        high = greater(place_of(bits, i32::MIN), high);
-        i += 1;
+    for sample in samples {
+        let bits = bits_of(sample);
+        zero += u32::from(is_zero(bits));
+        subnormal += u32::from(is_subnormal(bits));
+        normal += u32::from(is_normal(bits));
+        infinite += u32::from(is_infinite_f32(bits));
+        nan += u32::from(is_nan_f32(bits));
+        low = low.min(place_of(bits, i32::MAX));
+        high = high.max(place_of(bits, i32::MIN));
     }
     Tally {
         zero,
@@ -107,13 +91,10 @@ fn go_over(src: &[u8], n: usize, lowest: i32, highest: i32) -> Tally
 // ---- the lowest and the highest
 
 // Where the loop starts: at what was found before, or at the end where no sample but a NaN is.
-fn start_at(f: Option<u32>, end: i32) -> i32
-    ensures { result ≡ start_at end f }
+fn start_at(found: Option<u32>, end: i32) -> i32
+    ensures { result ≡ start_at end found }
 {
-    match f {
-        Some(a) => position_f32(a),
-        None => end,
-    }
+    found.map_or(end, |bits| position_f32(bits))
 }
 
 fn bits_at(place: i32) -> u32
@@ -127,19 +108,10 @@ fn bits_at(place: i32) -> u32
 }
 
 // What is found where the loop came to; `some` is whether it left the end.
-fn found_at(f: Option<u32>, some: bool, place: i32) -> Option<u32>
-    ensures { result ≡ found_at f some place }
+fn found_at(found: Option<u32>, some: bool, place: i32) -> Option<u32>
+    ensures { result ≡ found_at found some place }
 {
-    match f {
-        Some(_) => Some(bits_at(place)),
-        None => found_if(some, place),
-    }
-}
-
-fn found_if(some: bool, place: i32) -> Option<u32>
-    ensures { result ≡ (if some then Some (bits_at place) else None) }
-{
-    if some { Some(bits_at(place)) } else { None }
+    (found.is_some() | some).then_some(bits_at(place))
 }
 
 // ---- a block
@@ -157,21 +129,20 @@ pub fn tally_block(s: Sheet, src: &[u8]) -> Sheet
 {
     let lowest = s.lowest;
     let highest = s.highest;
-    let n = taken(s.samples, src.len());
+    let told = taken(s.samples, src);
     let c = go_over(
-        src,
-        n,
+        told,
         start_at(lowest, i32::MAX),
         start_at(highest, i32::MIN),
     );
-    let samples = s.samples + n as u64;
+    let samples = s.samples + told.len() as u64;
     Sheet {
         samples,
-        zero: wrapping_add_u64(s.zero, c.zero as u64),
-        subnormal: wrapping_add_u64(s.subnormal, c.subnormal as u64),
-        normal: wrapping_add_u64(s.normal, c.normal as u64),
-        infinite: wrapping_add_u64(s.infinite, c.infinite as u64),
-        nan: wrapping_add_u64(s.nan, c.nan as u64),
+        zero: s.zero.wrapping_add(c.zero as u64),
+        subnormal: s.subnormal.wrapping_add(c.subnormal as u64),
+        normal: s.normal.wrapping_add(c.normal as u64),
+        infinite: s.infinite.wrapping_add(c.infinite as u64),
+        nan: s.nan.wrapping_add(c.nan as u64),
         lowest: found_at(lowest, c.low < i32::MAX, c.low),
         highest: found_at(highest, i32::MIN < c.high, c.high),
         tail: left_over(samples, src.len()),

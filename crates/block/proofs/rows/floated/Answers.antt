@@ -6,5 +6,5 @@ pub returns : goal.returns
 returns c =
     let a = c.args in
     let both =
-    floated_block a.src.now a.dst.now c.requires.0 c.requires.1 (λ i. (c.type_inv.src i).fits) c.float_rows.ensures in
+    floated_block a.src.now a.dst.now c.requires.0 c.requires.1 (λ i. (c.type_inv.src i).fits) c.by_rows.ensures in
     record { answer = both.0; exit = both.1 }

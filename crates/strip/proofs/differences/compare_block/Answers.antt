@@ -1,9 +1,16 @@
 -- The places that both blocks have are gone over, and what was seen goes on by what they have.
-use Rattle.strip.proofs.Compared.{compared}
+use Rattle.std.proofs.Common.{refl, rules}
+use Rattle.strip.proofs.Compared.{found_or, all_same, some_differ}
 use Rattle.strip.proofs.differences.compare_block.Goals as goal
+
+pub returns-then-different-eq0 : goal.returns-then-different-eq0
+returns-then-different-eq0 c =
+    let a = c.args in
+    all_same a.s a.left.now a.right.now c.taken-l.result.now c.taken-r.result.now c.taken-l.ensures.samples c.taken-r.ensures.samples
+    c.count_different-different.ensures c.if-different-eq0.true (search rules)
 
 pub returns : goal.returns
 returns c =
     let a = c.args in
-    compared a.s a.left.now a.right.now c.taken-l.ensures.0 c.taken-r.ensures.0 c.fewer-n.ensures.0
-    c.count_different-different.ensures c.widest_of-widest.ensures c.earlier-first.ensures c.wrapping_add_u64.ensures.value c.wider.ensures
+    some_differ a.s a.left.now a.right.now c.taken-l.result.now c.taken-r.result.now c.taken-l.ensures.samples c.taken-r.ensures.samples
+    c.count_different-different.ensures refl (found_or a.s.first (λ p. search rules) c.or_else.ensures) (search rules)

@@ -1,69 +1,79 @@
 -- Each count goes on by the sample that was read, and fits; each place goes on by the sample's place.
-use Rattle.std.proofs.Common.{◌≡◌, ℕ, ◌+◌, ◌*◌, ◌<◌, ◌≤◌, Bool, cond, List, take, drop, arith, w32, Fits, rules}
-use Rattle.bytewise.specs.Numbers.{from_little_endian}
+use Rattle.std.specs.Int.{from_bool}
+use Rattle.std.proofs.Common.{◌≡◌, ℕ, ◌+◌, ◌<◌, ◌≤◌, Bool, List, length, [], get_or, arith, w32, Fits, rules}
+use lib.Signed.{lt_z}
 use Rattle.float.specs.Format.{zero_of, subnormal_of, normal_of, infinite_of, nan_of}
+use Rattle.bytewise.specs.Numbers.{from_little_endian}
 use Rattle.strip.specs.Sheet.{most}
-use Rattle.strip.proofs.Counting.{among, none_among, next_among, few_among}
-use Rattle.strip.proofs.Farthest.{so_far_start, so_far_next, so_far_all}
+use Rattle.strip.specs.Inner.{all_bits, top_end, bottom_end, gt_z}
+use Rattle.strip.proofs.Counting.{among, none_among, next_among, few_among, length_bits}
+use Rattle.strip.proofs.Farthest.{so_far_start, lowest_next, highest_next}
 use Rattle.strip.proofs.Tallying.{tally_is}
 use Rattle.strip.proofs.tallies.go_over.Goals as goal
 
-pub loop-i-init : goal.loop-i-init
-loop-i-init c =
-    let src = c.args.src.now in
-    (none_among 4 _ src, none_among 4 _ src, none_among 4 _ src, none_among 4 _ src, none_among 4 _ src, so_far_start, so_far_start)
+pub loop-sample-init : goal.loop-sample-init
+loop-sample-init c =
+    let s = c.args.samples.now in (
+      none_among (zero_of 23 8) s,
+      none_among (subnormal_of 23 8) s,
+      none_among (normal_of 23 8) s,
+      none_among (infinite_of 23 8) s,
+      none_among (nan_of 23 8) s,
+      so_far_start lt_z top_end _ s,
+      so_far_start gt_z bottom_end _ s,
+    )
 
-next_fits : (src : List ℕ) (test : ℕ → Bool) (n i : ℕ) {m b k : ℕ} {t : Bool} → i < n → n ≤ most
-    → m ≡ among 4 test src i → b ≡ from_little_endian (take 4 (drop (i * 4) src)) → t ≡ test b → k ≡ cond t 1 0 → Fits w32 (m + k)
-next_fits src test n i turn few counted read tested one =
-    let sum = next_among 4 test src i counted read tested one in
-    let within = few_among 4 test src (i + 1) sum in
-    record { fits = omega arith }
+next_fits : (test : ℕ → Bool) (samples : List (List ℕ)) (i : ℕ) {m b k : ℕ} {t : Bool} → i < length samples → length samples ≤ most
+    → m ≡ among test samples i → b ≡ from_little_endian (get_or samples i []) → t ≡ test b → k ≡ from_bool t → Fits w32 (m + k)
+next_fits test samples i turn few counted read tested one =
+    let here : i < length (all_bits samples) = omega (arith, length_bits samples) in
+    let sum = next_among test samples i here counted read tested one in
+    let within = few_among test samples (i + 1) (omega (arith, here)) sum in
+    record { fits = omega (arith, within, turn, few) }
 
 pub overflow_add-zero : goal.overflow_add-zero
 overflow_add-zero c =
-    next_fits c.args.src.now (zero_of 23 8) c.args.n c.loop-i.i c.loop-i-test.true c.requires.0
-    c.loop-i.invariant.0 c.word_at-bits.ensures c.is_zero.ensures c.one_if-zero.ensures
+    next_fits (zero_of 23 8) c.args.samples.now c.loop-sample.sample-index c.loop-sample-test.true c.requires
+    c.loop-sample.invariant.0 c.bits_of-bits.ensures c.is_zero.ensures c.from-zero.ensures
 
 pub overflow_add-subnormal : goal.overflow_add-subnormal
 overflow_add-subnormal c =
-    next_fits c.args.src.now (subnormal_of 23 8) c.args.n c.loop-i.i c.loop-i-test.true c.requires.0
-    c.loop-i.invariant.1 c.word_at-bits.ensures c.is_subnormal.ensures c.one_if-subnormal.ensures
+    next_fits (subnormal_of 23 8) c.args.samples.now c.loop-sample.sample-index c.loop-sample-test.true c.requires
+    c.loop-sample.invariant.1 c.bits_of-bits.ensures c.is_subnormal.ensures c.from-subnormal.ensures
 
 pub overflow_add-normal : goal.overflow_add-normal
 overflow_add-normal c =
-    next_fits c.args.src.now (normal_of 23 8) c.args.n c.loop-i.i c.loop-i-test.true c.requires.0
-    c.loop-i.invariant.2 c.word_at-bits.ensures c.is_normal.ensures c.one_if-normal.ensures
+    next_fits (normal_of 23 8) c.args.samples.now c.loop-sample.sample-index c.loop-sample-test.true c.requires
+    c.loop-sample.invariant.2 c.bits_of-bits.ensures c.is_normal.ensures c.from-normal.ensures
 
 pub overflow_add-infinite : goal.overflow_add-infinite
 overflow_add-infinite c =
-    next_fits c.args.src.now (infinite_of 23 8) c.args.n c.loop-i.i c.loop-i-test.true c.requires.0
-    c.loop-i.invariant.3 c.word_at-bits.ensures c.is_infinite_f32.ensures c.one_if-infinite.ensures
+    next_fits (infinite_of 23 8) c.args.samples.now c.loop-sample.sample-index c.loop-sample-test.true c.requires
+    c.loop-sample.invariant.3 c.bits_of-bits.ensures c.is_infinite_f32.ensures c.from-infinite.ensures
 
 pub overflow_add-nan : goal.overflow_add-nan
 overflow_add-nan c =
-    next_fits c.args.src.now (nan_of 23 8) c.args.n c.loop-i.i c.loop-i-test.true c.requires.0
-    c.loop-i.invariant.4 c.word_at-bits.ensures c.is_nan_f32.ensures c.one_if-nan.ensures
+    next_fits (nan_of 23 8) c.args.samples.now c.loop-sample.sample-index c.loop-sample-test.true c.requires
+    c.loop-sample.invariant.4 c.bits_of-bits.ensures c.is_nan_f32.ensures c.from-nan.ensures
 
-pub loop-i-preserved : goal.loop-i-preserved
-loop-i-preserved c =
-    let src = c.args.src.now in
-    let i = c.loop-i.i in
-    let inv = c.loop-i.invariant in
-    let turn = c.loop-i-test.true in
-    let word = c.word_at-bits.ensures in (
-      next_among 4 (zero_of 23 8) src i inv.0 word c.is_zero.ensures c.one_if-zero.ensures,
-      next_among 4 (subnormal_of 23 8) src i inv.1 word c.is_subnormal.ensures c.one_if-subnormal.ensures,
-      next_among 4 (normal_of 23 8) src i inv.2 word c.is_normal.ensures c.one_if-normal.ensures,
-      next_among 4 (infinite_of 23 8) src i inv.3 word c.is_infinite_f32.ensures c.one_if-infinite.ensures,
-      next_among 4 (nan_of 23 8) src i inv.4 word c.is_nan_f32.ensures c.one_if-nan.ensures,
-      so_far_next inv.5 turn word c.place_of.ensures (search rules) (search rules) c.lesser-low.ensures,
-      so_far_next inv.6 turn word c.place_of-in-loop-i.ensures (search rules) (search rules) c.greater-high.ensures,
+pub loop-sample-preserved : goal.loop-sample-preserved
+loop-sample-preserved c =
+    let s = c.args.samples.now in
+    let i = c.loop-sample.sample-index in
+    let inv = c.loop-sample.invariant in
+    let here : i < length (all_bits s) = omega (arith, length_bits s, c.loop-sample-test.true) in
+    let word = c.bits_of-bits.ensures in (
+      next_among (zero_of 23 8) s i here inv.0 word c.is_zero.ensures c.from-zero.ensures,
+      next_among (subnormal_of 23 8) s i here inv.1 word c.is_subnormal.ensures c.from-subnormal.ensures,
+      next_among (normal_of 23 8) s i here inv.2 word c.is_normal.ensures c.from-normal.ensures,
+      next_among (infinite_of 23 8) s i here inv.3 word c.is_infinite_f32.ensures c.from-infinite.ensures,
+      next_among (nan_of 23 8) s i here inv.4 word c.is_nan_f32.ensures c.from-nan.ensures,
+      lowest_next _ s here word (search rules) (search rules) inv.5 c.place_of.ensures c.min-low.ensures.value,
+      highest_next _ s here word (search rules) (search rules) inv.6 c.place_of-in-loop-sample.ensures c.max-high.ensures.value,
     )
 
 pub returns : goal.returns
 returns c =
-    let inv = c.loop-i.invariant in
-    let all : c.loop-i.i ≡ c.args.n = omega (arith, inv.5.within, c.loop-i-test.false) in
-    tally_is c.args.src.now c.args.lowest c.args.highest all inv.0 inv.1 inv.2 inv.3 inv.4
-    (so_far_all c.ranges.lowest inv.5 c.loop-i-test.false) (so_far_all c.ranges.highest inv.6 c.loop-i-test.false)
+    let s = c.args.samples.now in
+    let inv = c.loop-sample.invariant in
+    tally_is s c.args.lowest c.args.highest c.ranges.lowest c.ranges.highest (omega (arith, length_bits s, c.loop-sample-test.false)) inv.0 inv.1 inv.2 inv.3 inv.4 inv.5 inv.6
