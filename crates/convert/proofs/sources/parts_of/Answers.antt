@@ -19,12 +19,12 @@ unfolding step_of
 returns-in-F64 c =
     c.float_parts-in-F64.ensures
     ∙ ap (times (step_of f64))
-    (taken_pattern f64 c.bits_f64-b.ensures c.is_sign_negative.ensures c.abs.ensures)
+    (taken_pattern f64 c.bits_f64-b.ensures c.is_sign_negative-in-F64.ensures c.abs-in-F64.ensures)
     ∙ sym (ap exact_of c.in-F64.is)
 
 pub returns-in-F16 : goal.returns-in-F16
 unfolding step_of
 returns-in-F16 c =
     c.float_parts-in-F16.ensures
-    ∙ ap (times (step_of f16)) (taken_pattern f16 {b = c.in-F16.b} refl c.is_sign_negative.ensures c.abs.ensures)
+    ∙ ap (times (step_of f16)) (taken_pattern f16 {b = c.in-F16.b} refl c.is_sign_negative-in-F16.ensures c.abs-in-F16.ensures)
     ∙ sym (ap exact_of c.in-F16.is)
