@@ -22,7 +22,7 @@ pub(crate) fn holds_nan(src: &[u8], n: usize) -> bool
 {
     let mut found = false;
     for i in 0..n {
-        found |= float::is_nan_f16(u16::at(src, i));
+        found |= float::is_nan(u16::at(src, i));
     }
     found
 }
@@ -32,7 +32,7 @@ fn wide_bits(t: &[u32; 1024], b: u16) -> u32
     requires { Small t.now × (nan_in f16 b ≡ false) }
     ensures { result ≡ half_bits b }
 {
-    let a = float::abs_f16(b);
+    let a = float::abs(b);
     let entry = t[(a % 1024) as usize];
     let wide = if a < 0x0400 {
         entry

@@ -117,7 +117,7 @@ impl Sample for f32 {
 fn float_of(bits: u32) -> f32
     ensures { result ≡ from_bits binary32 bits }
 {
-    if float::is_nan_f32(bits) {
+    if float::is_nan(bits) {
         0.0f32 / 0.0f32
     } else {
         f32::from_bits(bits)

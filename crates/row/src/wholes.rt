@@ -33,7 +33,7 @@ impl Conversion for F32ToU16 {
     // 1 NaN, 2 infinity, 13 minus zero, 3 fraction, 4 out of range. From 2^23 on every float is whole.
     fn number(x: f32) -> u8 {
         let bits = value::bits_f32(x, 0);
-        let abs = float::abs_f32(bits);
+        let abs = float::abs(bits);
         if 0x7f80_0000 < abs {
             1
         } else if abs == 0x7f80_0000 {

@@ -43,9 +43,9 @@ fn classified(s: Sample) -> Result<Class, Refusal>
     ensures { outcome_of result ≡ classify_of s }
 {
     Ok(match pattern_of(s)? {
-        Pattern::F16(bits) => float::class_f16(bits),
-        Pattern::F32(bits) => float::class_f32(bits),
-        Pattern::F64(bits) => float::class_f64(bits),
+        Pattern::F16(bits) => float::classify(bits),
+        Pattern::F32(bits) => float::classify(bits),
+        Pattern::F64(bits) => float::classify(bits),
     })
 }
 
@@ -61,9 +61,9 @@ fn positioned(s: Sample) -> Result<i64, Refusal>
     ensures { outcome_of result ≡ sample_position s }
 {
     Ok(match pattern_of(s)? {
-        Pattern::F16(bits) => i64::from(float::position_f16(bits)),
-        Pattern::F32(bits) => i64::from(float::position_f32(bits)),
-        Pattern::F64(bits) => float::position_f64(bits),
+        Pattern::F16(bits) => i64::from(float::position(bits)),
+        Pattern::F32(bits) => i64::from(float::position(bits)),
+        Pattern::F64(bits) => float::position(bits),
     })
 }
 

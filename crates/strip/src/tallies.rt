@@ -6,7 +6,7 @@ ghost use Rattle.strip.specs.Inner.{all_bits, tally_of, place_of, start_at, bits
 
 use crate::samples::{bits_of, taken};
 use crate::{MOST, Sheet};
-use float::{abs_f32, is_infinite_f32, is_nan_f32, position_f32};
+use float::{abs, is_infinite, is_nan, position};
 
 // What a block has: how many samples of each class, and the lowest and the highest position. It has fewer than 2^32 samples.
 #[derive(Clone, Copy)]
@@ -25,20 +25,20 @@ struct Tally {
 fn is_zero(bits: u32) -> bool
     ensures { result ≡ zero_in f32 bits }
 {
-    abs_f32(bits) == 0
+    abs(bits) == 0
 }
 
 fn is_subnormal(bits: u32) -> bool
     ensures { result ≡ subnormal_in f32 bits }
 {
-    let x = abs_f32(bits);
+    let x = abs(bits);
     (0 < x) & (x < 0x0080_0000)
 }
 
 fn is_normal(bits: u32) -> bool
     ensures { result ≡ normal_in f32 bits }
 {
-    let x = abs_f32(bits);
+    let x = abs(bits);
     (0x0080_0000 <= x) & (x < 0x7f80_0000)
 }
 
@@ -46,11 +46,7 @@ fn is_normal(bits: u32) -> bool
 fn place_of(bits: u32, end: i32) -> i32
     ensures { result ≡ place_of end bits }
 {
-    if is_nan_f32(bits) {
-        end
-    } else {
-        position_f32(bits)
-    }
+    if is_nan(bits) { end } else { position(bits) }
 }
 
 // ---- all samples
@@ -72,8 +68,8 @@ fn go_over(samples: &[[u8; 4]], lowest: i32, highest: i32) -> Tally
         zero += u32::from(is_zero(bits));
         subnormal += u32::from(is_subnormal(bits));
         normal += u32::from(is_normal(bits));
-        infinite += u32::from(is_infinite_f32(bits));
-        nan += u32::from(is_nan_f32(bits));
+        infinite += u32::from(is_infinite(bits));
+        nan += u32::from(is_nan(bits));
         low = low.min(place_of(bits, i32::MAX));
         high = high.max(place_of(bits, i32::MIN));
     }
@@ -94,7 +90,7 @@ fn go_over(samples: &[[u8; 4]], lowest: i32, highest: i32) -> Tally
 fn start_at(found: Option<u32>, end: i32) -> i32
     ensures { result ≡ start_at end found }
 {
-    found.map_or(end, |bits| position_f32(bits))
+    found.map_or(end, |bits| position(bits))
 }
 
 fn bits_at(place: i32) -> u32

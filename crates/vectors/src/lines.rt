@@ -6,7 +6,7 @@ use crate::operands::{value_and_kind_in, value_in, values_in};
 use crate::record_lines::{record_choice_line, record_compare_line};
 use crate::row_lines::{row_clamp_line, row_line};
 use crate::rows::Rows;
-use float::{class_f16, class_f32, class_f64};
+use float::classify;
 use text::{after, before};
 use value::{Value, bits_f32, bits_f64};
 
@@ -42,9 +42,9 @@ pub(crate) fn answer_to<'a>(line: &[u8], rows: &'a mut Rows) -> Result<Answer<'a
 // Only a float has a class.
 fn class_line(rest: &[u8]) -> Result<Answer<'static>, Fault> {
     match value_in(rest) {
-        Some(Value::F32(x, word)) => Ok(Answer::Class(class_f32(bits_f32(x, word)))),
-        Some(Value::F64(x, word)) => Ok(Answer::Class(class_f64(bits_f64(x, word)))),
-        Some(Value::F16(b)) => Ok(Answer::Class(class_f16(b))),
+        Some(Value::F32(x, word)) => Ok(Answer::Class(classify(bits_f32(x, word)))),
+        Some(Value::F64(x, word)) => Ok(Answer::Class(classify(bits_f64(x, word)))),
+        Some(Value::F16(b)) => Ok(Answer::Class(classify(b))),
         _ => Err(Fault::Malformed),
     }
 }

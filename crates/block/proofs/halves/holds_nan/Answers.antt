@@ -13,7 +13,7 @@ pub loop-i-preserved : goal.loop-i-preserved
 loop-i-preserved c =
     let a = c.args in
     let here = number_here 2 a.n a.src.now c.loop-i.i 0 c.loop-i-test.true in
-    cc (c.loop-i.invariant, c.is_nan_f16-found.ensures, c.at.ensures, here)
+    cc (c.loop-i.invariant, c.is_nan-found.ensures, c.at.ensures, here)
     ∙ any_step (nan_in f16) (numbers_in 2 a.n a.src.now) c.loop-i.i 0 (omega (arith, length_numbers 2 a.n a.src.now, c.loop-i-test.true))
 
 pub returns : goal.returns

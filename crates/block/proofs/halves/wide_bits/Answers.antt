@@ -7,7 +7,7 @@ use Rattle.block.proofs.halves.wide_bits.Goals.{Joined-a-lt1024, then-a-lt1024, 
 found : (c : Joined-a-lt1024) → IsWide c.args.b c.if-a-lt1024.wide
 found c =
     let b = c.args.b in
-    let abs = c.abs_f16-a.ensures in
+    let abs = c.abs-a.ensures in
     elim c.if-a-lt1024.branch [
       | then-a-lt1024 w ↦ subst (IsWide b) (sym w.wide-is) (wide_low b abs _ c.requires.0 w.if-a-lt1024.true)
       | else-a-lt1024+then-a-eq31744 w ↦ subst (IsWide b) (sym w.wide-is) (wide_infinite b abs w.if-a-eq31744.true)

@@ -5,7 +5,7 @@ use Rattle.value.proofs.FloatBits.{from_bits, made_nan}
 use Rattle.block.proofs.layouts.float_of.Goals as goal
 
 pub float_from_bits-result : goal.float_from_bits-result
-float_from_bits-result c = from_bits binary32 _ (search rules) (sym c.if-is_nan_f32.false ∙ c.is_nan_f32.ensures)
+float_from_bits-result c = from_bits binary32 _ (search rules) (sym c.if-is_nan.false ∙ c.is_nan.ensures)
 
-pub returns-then-is_nan_f32 : goal.returns-then-is_nan_f32
-returns-then-is_nan_f32 c = made_nan binary32 _ (search rules) (sym c.if-is_nan_f32.true ∙ c.is_nan_f32.ensures)
+pub returns-then-is_nan : goal.returns-then-is_nan
+returns-then-is_nan c = made_nan binary32 _ (search rules) (sym c.if-is_nan.true ∙ c.is_nan.ensures)

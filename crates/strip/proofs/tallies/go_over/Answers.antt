@@ -49,12 +49,12 @@ overflow_add-normal c =
 pub overflow_add-infinite : goal.overflow_add-infinite
 overflow_add-infinite c =
     next_fits (infinite_of 23 8) c.args.samples.now c.loop-sample.sample-index c.loop-sample-test.true c.requires
-    c.loop-sample.invariant.3 c.bits_of-bits.ensures c.is_infinite_f32.ensures c.from-infinite.ensures
+    c.loop-sample.invariant.3 c.bits_of-bits.ensures c.is_infinite.ensures c.from-infinite.ensures
 
 pub overflow_add-nan : goal.overflow_add-nan
 overflow_add-nan c =
     next_fits (nan_of 23 8) c.args.samples.now c.loop-sample.sample-index c.loop-sample-test.true c.requires
-    c.loop-sample.invariant.4 c.bits_of-bits.ensures c.is_nan_f32.ensures c.from-nan.ensures
+    c.loop-sample.invariant.4 c.bits_of-bits.ensures c.is_nan.ensures c.from-nan.ensures
 
 pub loop-sample-preserved : goal.loop-sample-preserved
 loop-sample-preserved c =
@@ -66,8 +66,8 @@ loop-sample-preserved c =
       next_among (zero_of 23 8) s i here inv.0 word c.is_zero.ensures c.from-zero.ensures,
       next_among (subnormal_of 23 8) s i here inv.1 word c.is_subnormal.ensures c.from-subnormal.ensures,
       next_among (normal_of 23 8) s i here inv.2 word c.is_normal.ensures c.from-normal.ensures,
-      next_among (infinite_of 23 8) s i here inv.3 word c.is_infinite_f32.ensures c.from-infinite.ensures,
-      next_among (nan_of 23 8) s i here inv.4 word c.is_nan_f32.ensures c.from-nan.ensures,
+      next_among (infinite_of 23 8) s i here inv.3 word c.is_infinite.ensures c.from-infinite.ensures,
+      next_among (nan_of 23 8) s i here inv.4 word c.is_nan.ensures c.from-nan.ensures,
       lowest_next _ s here word (search rules) (search rules) inv.5 c.place_of.ensures c.min-low.ensures.value,
       highest_next _ s here word (search rules) (search rules) inv.6 c.place_of-in-loop-sample.ensures c.max-high.ensures.value,
     )
