@@ -4,6 +4,8 @@ ghost use Rattle.value.specs.Kinds.{kind_of, kind_number, kind_at, form_of, layo
 
 use crate::{Kind, Layout, Value};
 
+// These conversions keep their names, which callers and docs/ use: From and TryFrom beside them would say each a second time.
+
 pub fn kind_of(v: Value) -> Kind
     ensures { result ≡ kind_of v }
 {

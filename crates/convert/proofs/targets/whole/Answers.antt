@@ -10,6 +10,7 @@ use Rattle.value.specs.Meaning.{unit}
 use Rattle.value.specs.Outcome.{gives}
 use Rattle.convert.proofs.Wholes.{quotient_large, quotient_fits, whole_large}
 use Rattle.convert.proofs.Wholes.{whole_fraction, whole_outside, whole_inside}
+use Rattle.convert.specs.Inner.{found}
 use Rattle.convert.proofs.targets.whole.Goals as goal
 use Rattle.convert.proofs.targets.whole.Goals.{After-over-ratio, Else-n-eq0, Joined-n-2, then-n-2, else-n-2}
 
@@ -71,6 +72,6 @@ returns c =
     let l : a.n.digits * 2 ^ a.n.shift / unit ≤ cond a.n.negative a.low a.high =
     subst (λ (n : ℕ). n ≤ cond a.n.negative a.low a.high) (quotient_is ((goal.at.returns c).After-over-ratio))
     (subst (λ (n : ℕ). c.over-ratio.result.quotient ≤ n) (limit_is ((goal.at.returns c).Joined-n-2)) c.if-ratio-limit.false) in
-    ap (λ (n : ℕ). gives (a.n.negative, n)) (quotient_is ((goal.at.returns c).After-over-ratio))
+    ap (λ (n : ℕ). gives (found a.n.negative n)) (quotient_is ((goal.at.returns c).After-over-ratio))
     ∙ whole_inside a.low a.high a.n.negative (a.n.digits * 2 ^ a.n.shift) (some ((goal.at.returns c).Else-n-eq0))
     (sym (fraction_is ((goal.at.returns c).After-over-ratio)) ∙ c.if-ratio.false) l
