@@ -57,7 +57,8 @@ unfolding float_in held_in encode_of
 find_float f last q i not_number = refl
 find_float f last q i (infinite s) = ap (λ (n : ℕ). gives (found s n)) i
 find_float f last q i (finite s m) =
-    rw q (float_rules_lem (is_minus_zero (finite s m)) (has_fraction (finite s m)) (ltb (largest_in f * step_of f) m) (not (held_in f m)) (found s (encode_of f m)))
+    rw q (float_rules_lem (is_minus_zero (finite s m)) (has_fraction (finite s m)) (ltb (largest_in f * step_of f) m) (not (held_in f m))
+    (found s (encode_of f m)))
 
 pub find_rules : (to : Kind) (x : Exact) → find_in to x ≡ chain (into_rules (form_of to) x) (gives (found (sign_for x) (number_for (form_of to) x)))
 unfolding step_of

@@ -8,7 +8,9 @@ use Rattle.convert.proofs.targets.float_in.Goals as goal
 
 pub returns-in-NotANumber : goal.returns-in-NotANumber
 unfolding float_in
-returns-in-NotANumber c = let a = c.args in sym (ap (λ (x : Parts). float_in a.format.fraction (2 ^ a.format.step) a.format.last (meaning x)) c.in-NotANumber.is)
+returns-in-NotANumber c =
+    let a = c.args in
+    sym (ap (λ (x : Parts). float_in a.format.fraction (2 ^ a.format.step) a.format.last (meaning x)) c.in-NotANumber.is)
 
 pub returns-in-Infinite : goal.returns-in-Infinite
 unfolding float_in

@@ -80,7 +80,8 @@ field c = field_small c.saturating_sub-k.result c.args.format.fraction c.args.fo
 pub overflow_add-result : goal.overflow_add-result
 overflow_add-result c =
     let j = (goal.at.overflow_add-result c).After-saturating_sub-k in
-    let d : magnitude c.args.n / 2 ^ (c.saturating_sub-k.result + c.args.format.step) < 2 ^ 53 = digits_few c.args.format.fraction _ c.args.format.narrow (few j) in
+    let d : magnitude c.args.n / 2 ^ (c.saturating_sub-k.result + c.args.format.step) < 2 ^ 53 =
+    digits_few c.args.format.fraction _ c.args.format.narrow (few j) in
     let f = field ((goal.at.overflow_add-result c).After-over-ratio) in
     record { fits = omega (arith, c.over-ratio.ensures.0) }
 

@@ -23,7 +23,8 @@ some c = mul-pos (some_digit c) (pow_pos c.args.n.shift)
 pub returns-then-size_of-n-gt1138 : goal.returns-then-size_of-n-gt1138
 unfolding unit
 returns-then-size_of-n-gt1138 c =
-    let q = quotient_large c.args.n.digits c.args.n.shift 1074 (some_digit ((goal.at.returns-then-size_of-n-gt1138 c).Else-n-eq0)) (omega (arith, c.size_of.ensures))
+    let q = quotient_large c.args.n.digits c.args.n.shift 1074 (some_digit ((goal.at.returns-then-size_of-n-gt1138 c).Else-n-eq0))
+    (omega (arith, c.size_of.ensures))
     (omega (arith, c.if-size_of-n-gt1138.true, c.size_of.ensures.0)) in
     whole_large c.args.low c.args.high c.args.n.negative (c.args.n.digits * 2 ^ c.args.n.shift)
     (some ((goal.at.returns-then-size_of-n-gt1138 c).Else-n-eq0)) c.ranges.low.fits c.ranges.high.fits
