@@ -128,6 +128,7 @@ fn float_in(x: Parts, format: FloatFormat) -> Result<Found, Refusal>
 // ---- the value
 
 impl Found {
+    // By hand, as the library has no conversion from a sign and a magnitude.
     fn signed(self) -> i64
         requires { mag (signed_of self.negative self.number) < 2 ^ 63 }
         ensures { result ≡ signed_of self.negative self.number }
