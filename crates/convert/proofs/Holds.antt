@@ -18,7 +18,7 @@ use Rattle.float.specs.Format.{mag_of}
 use Rattle.float.proofs.Naturals.{lt_or_ge}
 use Rattle.value.specs.Outcome.{gives, refuses}
 use Rattle.convert.specs.Convert.{drop_of, encode_at}
-use Rattle.convert.specs.Inner.{held_at, float_at}
+use Rattle.convert.specs.Inner.{found, held_at, float_at}
 use Rattle.convert.proofs.Binary.{size_is, size_zero, size_scale, mod_scale}
 use Rattle.convert.proofs.Encode.{mag_has, mag_encode}
 
@@ -133,8 +133,8 @@ module _ (p c S k : ℕ) (e : k ≡ size S - suc p - c) where
       pub held_far : last < k → refuses 4 0 ≡ float_at p (2 ^ c) last s S
       held_far h = simp (lt-ltb _ _ (beyond h))
 
-      pub held_is : k ≤ last → S % 2 ^ (k + c) ≡ 0 → gives (s, k * 2 ^ p + S / 2 ^ (k + c)) ≡ float_at p (2 ^ c) last s S
-      held_is h z = ap (λ (n : ℕ). gives (s, n)) (sym encode_is) ∙ simp (le-ltb _ _ (exact_within h z), held_when z)
+      pub held_is : k ≤ last → S % 2 ^ (k + c) ≡ 0 → gives (found s (k * 2 ^ p + S / 2 ^ (k + c))) ≡ float_at p (2 ^ c) last s S
+      held_is h z = ap (λ (n : ℕ). gives (found s n)) (sym encode_is) ∙ simp (le-ltb _ _ (exact_within h z), held_when z)
 
       unheld : (S % 2 ^ (k + c) ≡ 0 → ⊥) → held_at p (2 ^ c) S ≡ false
       unheld d = not_held_lem (held_at p (2 ^ c) S) refl
@@ -155,13 +155,13 @@ module _ (p c S k : ℕ) (e : k ≡ size S - suc p - c) where
 
 -- ---- as the code has it
 
-pub held_zero : (p c last : ℕ) (s : Bool) (m g : ℕ) → m ≡ 0 → gives (s, 0) ≡ float_at p (2 ^ c) last s (m * 2 ^ g)
+pub held_zero : (p c last : ℕ) (s : Bool) (m g : ℕ) → m ≡ 0 → gives (found s 0) ≡ float_at p (2 ^ c) last s (m * 2 ^ g)
 held_zero p c last s m g h =
     let q : m * 2 ^ g ≡ 0 = rw h (zero-mul (2 ^ g)) in
     let k : 0 ≡ size 0 - suc p - c = let z = size_zero in omega arith in
     let d : 0 / 2 ^ (0 + c) ≡ 0 = zero-div (2 ^ (0 + c)) in
     let r : 0 % 2 ^ (0 + c) ≡ 0 = mod-eq_of_lt (pow_pos (0 + c)) in
-    rw q (ap (λ (n : ℕ). gives (s, n)) (sym (rw (d, zero-mul (2 ^ p)))) ∙ held_is p c 0 0 k last s (omega arith) r)
+    rw q (ap (λ (n : ℕ). gives (found s n)) (sym (rw (d, zero-mul (2 ^ p)))) ∙ held_is p c 0 0 k last s (omega arith) r)
 
 pub dropped_is : (p c m g z k : ℕ) → 0 < m → z ≡ size m → k ≡ z + g - (p + 1 + c) → k ≡ size (m * 2 ^ g) - suc p - c
 dropped_is p c m g z k h e q = let w : size (m * 2 ^ g) ≡ size m + g = size_scale m g h in omega arith

@@ -2,25 +2,23 @@
 use Rattle.std.specs.Prelude.{Result, Err, Ok}
 use mathlib.Core.Path.{◌≡◌, refl, sym, ◌∙◌, ap, subst}
 use mathlib.Core.Bool.{Bool, true, false, not, ◌&&◌, and-true, and-false}
-use Prim.Native.Nat.{ℕ, zero, suc, ◌+◌, ◌-◌, ◌*◌, ◌/◌, ◌%◌, ◌^◌, ◌<◌}
-use native.Mathlib.Omega.{arith}
+use Prim.Native.Nat.{ℕ, ◌+◌, ◌-◌, ◌*◌, ◌/◌, ◌%◌, ◌^◌}
 use lib.Dec.{eqb, ltb}
-use lib.IntN.{ℤ, pos, negsuc}
-use lib.Signed.{mag}
 use Rattle.float.specs.Format.{Format, f16, f32, f64, fraction_of, exponent_of, inf_in}
 use Rattle.float.specs.ClassMeaning.{largest_in}
-use Rattle.float.specs.Number.{Exact, not_number, infinite, finite, signed_of}
+use Rattle.float.specs.Number.{Exact, not_number, infinite, finite}
 use Rattle.value.specs.declared.Kind.{Kind}
 use Rattle.value.specs.declared.Kind.TheVariants as kind
 use Rattle.value.specs.declared.Value.{Value}
 use Rattle.value.specs.Kinds.{Form, unsigned, signed, floating, form_of}
 use Rattle.value.specs.Meaning.{unit, step_of}
 use Rattle.value.specs.declared.Refusal.{Refusal}
-use Rattle.value.specs.Outcome.{Outcome, gives, refuse_if, refusal_of, outcome_of, mapped}
+use Rattle.value.specs.Outcome.{gives, refuse_if, refusal_of, outcome_of, mapped}
 use Rattle.value.specs.Rules.{chain}
 use Rattle.value.proofs.Rules.{chain_mapped}
 use Rattle.convert.specs.Convert.{encode_of, held_in, is_minus_zero, has_fraction, outside, into_rules, sign_for, magnitude_for, abs_for, made_in}
-use Rattle.convert.specs.Inner.{into_of, whole_in, float_in, find_in, FitsIn, make_in}
+use Rattle.convert.specs.declared.Found.{Found}
+use Rattle.convert.specs.Inner.{into_of, found, whole_in, float_in, find_in, FitsIn, make_in}
 use Rattle.convert.proofs.Accepted.{Accepted, rules_accept, unsigned_fits, signed_fits, abs_small}
 
 -- ---- the number that a form has
@@ -41,27 +39,28 @@ float_rules_lem : {A : Type 0} (z t u v : Bool) (a : A)
     → refuse_if u 4 0 (refuse_if v 5 0 (gives a)) ≡ refuse_if (z && false) 13 0 (refuse_if (t && false) 3 0 (refuse_if u 4 0 (refuse_if v 5 0 (gives a))))
 float_rules_lem z t u v a = simp (and-false z, and-false t)
 
-find_unsigned : (k : ℕ) (x : Exact) → whole_in 0 (2 ^ k - 1) x ≡ chain (into_rules (unsigned k) x) (gives (sign_for x, magnitude_for x))
+find_unsigned : (k : ℕ) (x : Exact) → whole_in 0 (2 ^ k - 1) x ≡ chain (into_rules (unsigned k) x) (gives (found (sign_for x) (magnitude_for x)))
 unfolding whole_in
 find_unsigned k not_number = refl
 find_unsigned k (infinite s) = refl
-find_unsigned k (finite s m) = whole_rules (s && eqb m 0) (not (eqb (m % unit) 0)) (outside 0 (2 ^ k - 1) s (m / unit)) (s, m / unit)
+find_unsigned k (finite s m) = whole_rules (s && eqb m 0) (not (eqb (m % unit) 0)) (outside 0 (2 ^ k - 1) s (m / unit)) (found s (m / unit))
 
-find_signed : (k : ℕ) (x : Exact) → whole_in (2 ^ (k - 1)) (2 ^ (k - 1) - 1) x ≡ chain (into_rules (signed k) x) (gives (sign_for x, magnitude_for x))
+find_signed : (k : ℕ) (x : Exact) → whole_in (2 ^ (k - 1)) (2 ^ (k - 1) - 1) x ≡ chain (into_rules (signed k) x) (gives (found (sign_for x) (magnitude_for x)))
 unfolding whole_in
 find_signed k not_number = refl
 find_signed k (infinite s) = refl
-find_signed k (finite s m) = whole_rules (s && eqb m 0) (not (eqb (m % unit) 0)) (outside (2 ^ (k - 1)) (2 ^ (k - 1) - 1) s (m / unit)) (s, m / unit)
+find_signed k (finite s m) = whole_rules (s && eqb m 0) (not (eqb (m % unit) 0)) (outside (2 ^ (k - 1)) (2 ^ (k - 1) - 1) s (m / unit)) (found s (m / unit))
 
 find_float : (f : Format) (last : ℕ) → last ≡ 2 ^ exponent_of f - 3 → (last + 2) * 2 ^ fraction_of f ≡ inf_in f → (x : Exact)
-    → float_in (fraction_of f) (step_of f) last x ≡ chain (into_rules (floating f) x) (gives (sign_for x, abs_for f x))
+    → float_in (fraction_of f) (step_of f) last x ≡ chain (into_rules (floating f) x) (gives (found (sign_for x) (abs_for f x)))
 unfolding float_in held_in encode_of
 find_float f last q i not_number = refl
-find_float f last q i (infinite s) = ap (λ (n : ℕ). gives (s, n)) i
+find_float f last q i (infinite s) = ap (λ (n : ℕ). gives (found s n)) i
 find_float f last q i (finite s m) =
-    rw q (float_rules_lem (is_minus_zero (finite s m)) (has_fraction (finite s m)) (ltb (largest_in f * step_of f) m) (not (held_in f m)) (s, encode_of f m))
+    rw q (float_rules_lem (is_minus_zero (finite s m)) (has_fraction (finite s m)) (ltb (largest_in f * step_of f) m) (not (held_in f m))
+    (found s (encode_of f m)))
 
-pub find_rules : (to : Kind) (x : Exact) → find_in to x ≡ chain (into_rules (form_of to) x) (gives (sign_for x, number_for (form_of to) x))
+pub find_rules : (to : Kind) (x : Exact) → find_in to x ≡ chain (into_rules (form_of to) x) (gives (found (sign_for x) (number_for (form_of to) x)))
 unfolding step_of
 find_rules kind.U8 x = find_unsigned 8 x
 find_rules kind.U16 x = find_unsigned 16 x
@@ -91,14 +90,14 @@ make_is kind.F32 x = refl
 make_is kind.F64 x = refl
 make_is kind.F16 x = refl
 
-abbrev made : Kind → Bool × ℕ → Value
-made to w = make_in to w.0 w.1
+abbrev made : Kind → Found → Value
+made to w = make_in to w.negative w.number
 
 into_found : (to : Kind) (x : Exact) → mapped (made to) (find_in to x) ≡ into_of to x
 unfolding into_of
 into_found to x =
     ap (mapped (made to)) (find_rules to x)
-    ∙ chain_mapped (made to) (into_rules (form_of to) x) (gives (sign_for x, number_for (form_of to) x))
+    ∙ chain_mapped (made to) (into_rules (form_of to) x) (gives (found (sign_for x) (number_for (form_of to) x)))
     ∙ ap (λ (v : Value). chain (into_rules (form_of to) x) (gives v)) (make_is to x)
 
 -- ---- as the code has it
@@ -108,45 +107,18 @@ number_fits (unsigned k) x a = unsigned_fits k x a
 number_fits (signed k) x a = signed_fits k x a
 number_fits (floating f) x a = abs_small f x a
 
-module _ (to : Kind) (x : Exact) (w : Result (Bool × ℕ) Refusal) (h : outcome_of w ≡ find_in to x) where
+module _ (to : Kind) (x : Exact) (w : Result Found Refusal) (h : outcome_of w ≡ find_in to x) where
   into : mapped (made to) (outcome_of w) ≡ into_of to x
   into = ap (mapped (made to)) h ∙ into_found to x
 
-  pub put_is : (s : Bool) (n : ℕ) → w ≡ Ok (s, n) → gives (make_in to s n) ≡ into_of to x
-  put_is s n q = sym (ap (λ (v : Result (Bool × ℕ) Refusal). mapped (made to) (outcome_of v)) q) ∙ into
+  pub put_is : (n : Found) → w ≡ Ok n → gives (make_in to n.negative n.number) ≡ into_of to x
+  put_is n q = sym (ap (λ (v : Result Found Refusal). mapped (made to) (outcome_of v)) q) ∙ into
 
   pub put_refused : (j : Refusal) → w ≡ Err j → refusal_of j ≡ into_of to x
-  put_refused j q = sym (ap (λ (v : Result (Bool × ℕ) Refusal). mapped (made to) (outcome_of v)) q) ∙ into
+  put_refused j q = sym (ap (λ (v : Result Found Refusal). mapped (made to) (outcome_of v)) q) ∙ into
 
   -- what was found fits the kind
-  pub found_fits : (s : Bool) (n : ℕ) → w ≡ Ok (s, n) → FitsIn (form_of to) s n
-  found_fits s n q =
-      let a = rules_accept (form_of to) x (sign_for x, number_for (form_of to) x) (s, n) (sym (find_rules to x) ∙ sym h ∙ ap outcome_of q) in
-      subst (λ (v : Bool × ℕ). FitsIn (form_of to) v.0 v.1) a.1 (number_fits (form_of to) x a.0)
-
--- in the arm of a kind
-module _ (k : Kind) {to : Kind} (at : to ≡ k) where
-  pub find_at : (x : Exact) {o : Outcome (Bool × ℕ)} → o ≡ find_in k x → o ≡ find_in to x
-  find_at x h = h ∙ sym (ap (λ (j : Kind). find_in j x) at)
-
-  pub fits_at : (s : Bool) (n : ℕ) → FitsIn (form_of to) s n → FitsIn (form_of k) s n
-  fits_at s n h = subst (λ (j : Kind). FitsIn (form_of j) s n) at h
-
-  pub make_at : (s : Bool) (n : ℕ) {v : Value} → v ≡ make_in k s n → v ≡ make_in to s n
-  make_at s n h = h ∙ sym (ap (λ (j : Kind). make_in j s n) at)
-
--- ---- a sign and a magnitude as a signed number
-
-module _ (n h : ℕ) where
-  pub minus_zero_lem : (s : Bool) → s ≡ true → n ≡ 0 → pos 0 ≡ signed_of s n
-  minus_zero_lem s e q = sym (rw (e, q))
-
-  pub minus_fits : (s : Bool) → s ≡ true → (n ≡ 0 → ⊥) → mag (signed_of s n) < h → (n - 1 < h) × (negsuc (n - 1) ≡ signed_of s n)
-  minus_fits s e d l = let q : signed_of s n ≡ negsuc (n - 1) = rw e (below n d) in (subst (λ (z : ℤ). mag z < h) q l, sym q)
-    where
-      below : (n : ℕ) → (n ≡ 0 → ⊥) → signed_of true n ≡ negsuc (n - 1)
-      below zero d = absurd (d refl)
-      below (suc n) d = ap negsuc (omega arith)
-
-  pub plus_fits : (s : Bool) → s ≡ false → mag (signed_of s n) < h → (n < h) × (pos n ≡ signed_of s n)
-  plus_fits s e l = let q : signed_of s n ≡ pos n = rw e refl in (subst (λ (z : ℤ). mag z < h) q l, sym q)
+  pub found_fits : (n : Found) → w ≡ Ok n → FitsIn (form_of to) n.negative n.number
+  found_fits n q =
+      let a = rules_accept (form_of to) x (found (sign_for x) (number_for (form_of to) x)) n (sym (find_rules to x) ∙ sym h ∙ ap outcome_of q) in
+      subst (λ (v : Found). FitsIn (form_of to) v.negative v.number) a.1 (number_fits (form_of to) x a.0)

@@ -12,7 +12,7 @@ use lib.Ieee.Digits.{size-lt, size_reaches}
 use Rattle.value.specs.Meaning.{unit}
 use Rattle.value.specs.Outcome.{gives, refuses}
 use Rattle.convert.specs.Convert.{outside}
-use Rattle.convert.specs.Inner.{whole_at}
+use Rattle.convert.specs.Inner.{found, whole_at}
 use Rattle.convert.proofs.Binary.{size_scale, over_up}
 use Rattle.convert.proofs.MinusZero.{some_magnitude}
 
@@ -52,7 +52,7 @@ module _ (low high : ℕ) (s : Bool) (m : ℕ) (some : 0 < m) where
     pub whole_outside : cond s low high < m / unit → refuses 4 0 ≡ whole_at low high s m
     whole_outside l = simp (no_zero, h, limit_is low high s (m / unit), lt-ltb _ _ l)
 
-    pub whole_inside : m / unit ≤ cond s low high → gives (s, m / unit) ≡ whole_at low high s m
+    pub whole_inside : m / unit ≤ cond s low high → gives (found s (m / unit)) ≡ whole_at low high s m
     whole_inside l = simp (no_zero, h, limit_is low high s (m / unit), le-ltb _ _ l)
 
 -- of a zero the sign decides
@@ -63,10 +63,10 @@ module _ (low high m g : ℕ) (e : m ≡ 0) where
   pub whole_minus_zero : refuses 13 0 ≡ whole_at low high true (m * 2 ^ g)
   whole_minus_zero = rw nothing refl
 
-  pub whole_plus_zero : gives (false, 0) ≡ whole_at low high false (m * 2 ^ g)
+  pub whole_plus_zero : gives (found false 0) ≡ whole_at low high false (m * 2 ^ g)
   whole_plus_zero =
       let r : 0 / unit ≡ 0 = zero-div unit in
-      rw nothing (ap (λ (n : ℕ). gives (false, n)) (sym r) ∙ simp (eq-eqb (0 % unit) 0 (zero-mod unit), le-ltb high (0 / unit) (rw r (omega arith))))
+      rw nothing (ap (λ (n : ℕ). gives (found false n)) (sym r) ∙ simp (eq-eqb (0 % unit) 0 (zero-mod unit), le-ltb high (0 / unit) (rw r (omega arith))))
 
 below_large : (low high : ℕ) (s : Bool) {n : ℕ} → low < 2 ^ 64 → high < 2 ^ 64 → 2 ^ 64 ≤ n → cond s low high < n
 below_large low high true l h g = lt_of_lt_of_le l g

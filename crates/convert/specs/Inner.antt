@@ -13,6 +13,7 @@ use Rattle.value.specs.Outcome.{Outcome, gives, refuses, refuse_if}
 use Rattle.convert.specs.Convert.{encode_at, outside, with_sign, into_rules, made_in}
 use Rattle.convert.specs.declared.Parts.{Parts}
 use Rattle.convert.specs.declared.Scaled.{Scaled}
+use Rattle.convert.specs.declared.Found.{Found}
 use Rattle.value.specs.Rules.{chain}
 use Rattle.value.specs.declared.Kind.TheVariants as kind
 use Rattle.convert.specs.declared.Parts.TheVariants as parts
@@ -31,15 +32,19 @@ meaning (parts.Finite n) = finite n.negative (magnitude n)
 abbrev pub pattern_at : ℕ → ℕ → Bool → ℕ → Exact
 pattern_at p i s a = cond (ltb i a) not_number (cond (eqb a i) (infinite s) (finite s (mag_of p a)))
 
+-- what a target kind finds
+abbrev pub found : Bool → ℕ → Found
+found s n = record { negative = s; number = n }
+
 -- an integer kind whose numbers go from -low to high: the sign and the magnitude
-abbrev pub whole_at : ℕ → ℕ → Bool → ℕ → Outcome (Bool × ℕ)
+abbrev pub whole_at : ℕ → ℕ → Bool → ℕ → Outcome Found
 whole_at low high s m =
     refuse_if (s && eqb m 0) 13 0
     (refuse_if (not (eqb (m % unit) 0)) 3 0
     (refuse_if (outside low high s (m / unit)) 4 0
-    (gives (s, m / unit))))
+    (gives (found s (m / unit)))))
 
-unfoldable pub whole_in : ℕ → ℕ → Exact → Outcome (Bool × ℕ)
+unfoldable pub whole_in : ℕ → ℕ → Exact → Outcome Found
 whole_in low high not_number = refuses 1 0
 whole_in low high (infinite s) = refuses 2 0
 whole_in low high (finite s m) = whole_at low high s m
@@ -48,20 +53,20 @@ whole_in low high (finite s m) = whole_at low high s m
 abbrev pub held_at : ℕ → ℕ → ℕ → Bool
 held_at p t m = eqb (mag_of p (encode_at p (m / t)) * t) m
 
-abbrev pub float_at : ℕ → ℕ → ℕ → Bool → ℕ → Outcome (Bool × ℕ)
+abbrev pub float_at : ℕ → ℕ → ℕ → Bool → ℕ → Outcome Found
 float_at p t last s m =
     refuse_if (ltb ((2 ^ suc p - 1) * 2 ^ last * t) m) 4 0
     (refuse_if (not (held_at p t m)) 5 0
-    (gives (s, encode_at p (m / t))))
+    (gives (found s (encode_at p (m / t)))))
 
-unfoldable pub float_in : ℕ → ℕ → ℕ → Exact → Outcome (Bool × ℕ)
+unfoldable pub float_in : ℕ → ℕ → ℕ → Exact → Outcome Found
 float_in p t last not_number = refuses 1 0
-float_in p t last (infinite s) = gives (s, (last + 2) * 2 ^ p)
+float_in p t last (infinite s) = gives (found s ((last + 2) * 2 ^ p))
 float_in p t last (finite s m) = float_at p t last s m
 
 -- ---- a target kind: what it finds, that this fits it, and the value that it makes of it
 
-abbrev pub find_in : Kind → Exact → Outcome (Bool × ℕ)
+abbrev pub find_in : Kind → Exact → Outcome Found
 find_in kind.U8 x = whole_in 0 0xff x
 find_in kind.U16 x = whole_in 0 0xffff x
 find_in kind.U32 x = whole_in 0 0xffff_ffff x

@@ -1,5 +1,5 @@
 // Binary digits of whole numbers.
-ghost use Rattle.std.specs.Prelude.{◌≡◌, not, ◌*◌, ◌/◌, ◌%◌, ◌^◌, ◌≤◌, ◌<◌, eqb};
+ghost use Rattle.std.specs.Prelude.{◌≡◌, not, ◌/◌, ◌%◌, ◌^◌, ◌≤◌, ◌<◌, eqb};
 ghost use Rattle.std.specs.Float.Ieee.{size};
 ghost use Rattle.convert.specs.Inner.{magnitude};
 

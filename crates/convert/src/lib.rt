@@ -41,6 +41,13 @@ pub struct Ratio {
     pub rest: bool,
 }
 
+// What a target kind finds: a sign, and an integer's magnitude or a float's abs.
+#[derive(Clone, Copy)]
+pub struct Found {
+    pub negative: bool,
+    pub number: u64,
+}
+
 // The value itself for its own kind, else the value of the other kind with the same number.
 pub fn convert(v: Value, to: Kind) -> Result<Value, Refusal>
     ensures { outcome_of result ≡ convert_of v to }

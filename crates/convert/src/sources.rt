@@ -1,7 +1,7 @@
 // A value taken apart into the number that it stands for. RULES.md: The kinds, Scaled numbers.
-ghost use Rattle.std.specs.Prelude.{◌≡◌, ◌+◌, ◌*◌, ◌^◌, pos};
+ghost use Rattle.std.specs.Prelude.{◌≡◌, ◌+◌, ◌*◌, ◌^◌};
 ghost use Rattle.float.specs.Number.{finite, times};
-ghost use Rattle.value.specs.Meaning.{whole_of, unit, exact_of};
+ghost use Rattle.value.specs.Meaning.{unit, exact_of};
 ghost use Rattle.convert.specs.Inner.{meaning, pattern_at};
 
 use crate::formats::{F16, F32, F64, FloatFormat};

@@ -2,13 +2,13 @@
 ghost use Rattle.std.specs.Prelude.{◌≡◌, cond, ◌+◌, ◌*◌, ◌^◌, ◌≤◌, ◌<◌};
 ghost use Rattle.std.specs.Int.Signed.{mag};
 ghost use Rattle.float.specs.Number.{signed_of};
-ghost use Rattle.value.specs.Outcome.{refuses, outcome_of};
+ghost use Rattle.value.specs.Outcome.{outcome_of};
 ghost use Rattle.convert.specs.Inner.{into_of, magnitude, meaning, whole_at, whole_in, float_at, float_in, find_in, FitsIn, make_in};
 ghost use Rattle.value.specs.Kinds.{form_of};
 
 use crate::digits::{over, size_of};
 use crate::formats::{F16, F32, F64, FloatFormat};
-use crate::{Parts, Scaled};
+use crate::{Found, Parts, Scaled};
 use value::{Kind, Refusal, Value};
 
 // The rules that refuse a conversion.
@@ -43,14 +43,17 @@ const MINUS_ZERO: Refusal = Refusal {
 };
 
 // A number as a whole number from -low to high; minus zero is none. From 2^64 on there is no fraction left.
-fn whole(n: Scaled, low: u64, high: u64) -> Result<(bool, u64), Refusal>
+fn whole(n: Scaled, low: u64, high: u64) -> Result<Found, Refusal>
     ensures { outcome_of result ≡ whole_at low high n.negative (magnitude n) }
 {
     if n.digits == 0 {
         if n.negative {
             return Err(MINUS_ZERO);
         }
-        return Ok((false, 0));
+        return Ok(Found {
+            negative: false,
+            number: 0,
+        });
     }
     if size_of(n.digits) as u64 + n.shift as u64 > 1138 {
         return Err(OUT_OF_RANGE);
@@ -63,10 +66,13 @@ fn whole(n: Scaled, low: u64, high: u64) -> Result<(bool, u64), Refusal>
     if ratio.quotient > limit {
         return Err(OUT_OF_RANGE);
     }
-    Ok((n.negative, ratio.quotient))
+    Ok(Found {
+        negative: n.negative,
+        number: ratio.quotient,
+    })
 }
 
-fn whole_in(x: Parts, low: u64, high: u64) -> Result<(bool, u64), Refusal>
+fn whole_in(x: Parts, low: u64, high: u64) -> Result<Found, Refusal>
     ensures { outcome_of result ≡ whole_in low high (meaning x) }
 {
     match x {
@@ -78,11 +84,14 @@ fn whole_in(x: Parts, low: u64, high: u64) -> Result<(bool, u64), Refusal>
 
 // A number in a float format: its leading digits are kept, one more than the fraction has, and those below have to be 0. Field k + 1 is the exponent's.
 #[tactic(auto, using(crate::proofs::Holds::far_refused))]
-fn held(n: Scaled, format: FloatFormat) -> Result<(bool, u64), Refusal>
+fn held(n: Scaled, format: FloatFormat) -> Result<Found, Refusal>
     ensures { outcome_of result ≡ float_at format.fraction (2 ^ format.step) format.last n.negative (magnitude n) }
 {
     if n.digits == 0 {
-        return Ok((n.negative, 0));
+        return Ok(Found {
+            negative: n.negative,
+            number: 0,
+        });
     }
     let digits = size_of(n.digits) as u64 + n.shift as u64;
     let kept = format.fraction as u64 + 1 + format.step as u64;
@@ -97,41 +106,59 @@ fn held(n: Scaled, format: FloatFormat) -> Result<(bool, u64), Refusal>
         }
         return Err(NOT_HELD);
     }
-    Ok((n.negative, (k << format.fraction) + ratio.quotient))
+    Ok(Found {
+        negative: n.negative,
+        number: (k << format.fraction) + ratio.quotient,
+    })
 }
 
-fn float_in(x: Parts, format: FloatFormat) -> Result<(bool, u64), Refusal>
+fn float_in(x: Parts, format: FloatFormat) -> Result<Found, Refusal>
     ensures { outcome_of result ≡ float_in format.fraction (2 ^ format.step) format.last (meaning x) }
 {
     match x {
         Parts::NotANumber => Err(NO_NUMBER),
-        Parts::Infinite(negative) => Ok((negative, format.infinity())),
+        Parts::Infinite(negative) => Ok(Found {
+            negative,
+            number: format.infinity(),
+        }),
         Parts::Finite(n) => held(n, format),
     }
 }
 
 // ---- the value
 
-fn signed(s: bool, n: u64) -> i64
-    requires { mag (signed_of s n) < 2 ^ 63 }
-    ensures { result ≡ signed_of s n }
-{
-    if s {
-        if n == 0 { 0 } else { -((n - 1) as i64) - 1 }
-    } else {
-        n as i64
+impl Found {
+    // By hand, as the library has no conversion from a sign and a magnitude.
+    fn signed(self) -> i64
+        requires { mag (signed_of self.negative self.number) < 2 ^ 63 }
+        ensures { result ≡ signed_of self.negative self.number }
+    {
+        if self.negative {
+            if self.number == 0 {
+                0
+            } else {
+                -((self.number - 1) as i64) - 1
+            }
+        } else {
+            self.number as i64
+        }
+    }
+
+    // The pattern, of a format with this sign bit.
+    pub(crate) fn with_sign(self, sign: u64) -> u64
+        requires { (self.number < sign) × (sign ≤ 2 ^ 63) }
+        ensures { (result ≡ cond self.negative (sign + self.number) self.number) × (result < 2 * sign) }
+    {
+        if self.negative {
+            sign + self.number
+        } else {
+            self.number
+        }
     }
 }
 
-pub(crate) fn with_sign(s: bool, a: u64, sign: u64) -> u64
-    requires { (a < sign) × (sign ≤ 2 ^ 63) }
-    ensures { (result ≡ cond s (sign + a) a) × (result < 2 * sign) }
-{
-    if s { sign + a } else { a }
-}
-
 // What the target kind finds: a whole number in its range, or the abs of its format.
-fn find(x: Parts, to: Kind) -> Result<(bool, u64), Refusal>
+fn find(x: Parts, to: Kind) -> Result<Found, Refusal>
     ensures { outcome_of result ≡ find_in to (meaning x) }
 {
     match to {
@@ -149,29 +176,29 @@ fn find(x: Parts, to: Kind) -> Result<(bool, u64), Refusal>
     }
 }
 
-// The value that it makes of a sign and a number that it has.
-fn make(to: Kind, s: bool, n: u64) -> Value
-    requires { FitsIn (form_of to) s n }
-    ensures { result ≡ make_in to s n }
+// The value that it makes of what it finds.
+fn make(to: Kind, found: Found) -> Value
+    requires { FitsIn (form_of to) found.negative found.number }
+    ensures { result ≡ make_in to found.negative found.number }
 {
     match to {
-        Kind::U8 => Value::U8(n as u8),
-        Kind::U16 => Value::U16(n as u16),
-        Kind::U32 => Value::U32(n as u32),
-        Kind::U64 => Value::U64(n),
-        Kind::I8 => Value::I8(signed(s, n) as i8),
-        Kind::I16 => Value::I16(signed(s, n) as i16),
-        Kind::I32 => Value::I32(signed(s, n) as i32),
-        Kind::I64 => Value::I64(signed(s, n)),
-        Kind::F32 => value::f32_value(with_sign(s, n, 0x8000_0000) as u32),
-        Kind::F64 => value::f64_value(with_sign(s, n, 0x8000_0000_0000_0000)),
-        Kind::F16 => Value::F16(with_sign(s, n, 0x8000) as u16),
+        Kind::U8 => Value::U8(found.number as u8),
+        Kind::U16 => Value::U16(found.number as u16),
+        Kind::U32 => Value::U32(found.number as u32),
+        Kind::U64 => Value::U64(found.number),
+        Kind::I8 => Value::I8(found.signed() as i8),
+        Kind::I16 => Value::I16(found.signed() as i16),
+        Kind::I32 => Value::I32(found.signed() as i32),
+        Kind::I64 => Value::I64(found.signed()),
+        Kind::F32 => value::f32_value(found.with_sign(0x8000_0000) as u32),
+        Kind::F64 => value::f64_value(found.with_sign(0x8000_0000_0000_0000)),
+        Kind::F16 => Value::F16(found.with_sign(0x8000) as u16),
     }
 }
 
 pub(crate) fn put(x: Parts, to: Kind) -> Result<Value, Refusal>
     ensures { outcome_of result ≡ into_of to (meaning x) }
 {
-    let (s, n) = find(x, to)?;
-    Ok(make(to, s, n))
+    let found = find(x, to)?;
+    Ok(make(to, found))
 }

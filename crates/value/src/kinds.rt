@@ -1,8 +1,10 @@
 // Kinds, their numbers 0 to 10, and their forms. RULES.md: The kinds.
-ghost use Rattle.std.specs.Prelude.{◌≡◌, ◌+◌, ◌≤◌, ◌<◌};
+ghost use Rattle.std.specs.Prelude.{◌≡◌, ◌≤◌, ◌<◌};
 ghost use Rattle.value.specs.Kinds.{kind_of, kind_number, kind_at, form_of, layout_for, width_of, bytes_of};
 
 use crate::{Kind, Layout, Value};
+
+// These conversions keep their names, which callers and docs/ use: From and TryFrom beside them would say each a second time.
 
 pub fn kind_of(v: Value) -> Kind
     ensures { result ≡ kind_of v }

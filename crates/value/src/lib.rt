@@ -48,7 +48,7 @@ pub enum Value {
     F16(u16),
 }
 
-// The number of the rule that refused, and the place of the first field or sample that it met.
+// The number of the rule that refused, and the place of the first field or sample that it met. It is a number, as the C interface hands it out.
 #[derive(Clone, Copy, Debug, PartialEq, Eq)]
 pub struct Refusal {
     pub number: u8,

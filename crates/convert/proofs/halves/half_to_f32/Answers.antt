@@ -32,8 +32,8 @@ with_sign-requires c =
 pub returns-then-a-lt1024 : goal.returns-then-a-lt1024
 returns-then-a-lt1024 c =
     let r = c.small_f32-bits.result in
-    let sign : cond c.is_sign_negative-s.result (0x8000_0000 + r) r ≡ with_sign f32 (negative_in f16 c.args.b) r =
-    ap (λ (t : Bool). cond t (0x8000_0000 + r) r) c.is_sign_negative-s.ensures in
+    let sign : cond c.is_sign_negative.result (0x8000_0000 + r) r ≡ with_sign f32 (negative_in f16 c.args.b) r =
+    ap (λ (t : Bool). cond t (0x8000_0000 + r) r) c.is_sign_negative.ensures in
     ap gives (c.f32_value.ensures ∙ ap f32_value (c.with_sign.ensures.0 ∙ sign))
     ∙ sym (low_moved c.args.b r (low ((goal.at.returns-then-a-lt1024 c).After-small_f32-bits))
     (over_own ((goal.at.returns-then-a-lt1024 c).After-small_f32-bits)))

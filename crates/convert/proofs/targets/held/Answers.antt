@@ -10,7 +10,7 @@ use lib.Ieee.{size}
 use Rattle.value.specs.Outcome.{gives}
 use Rattle.convert.proofs.Holds.{kept_small, held_is, held_none, held_over, held_zero, dropped_is, low_refused, all_ones, ones_left, field_small, digits_few}
 use Rattle.convert.proofs.targets.held.Goals as goal
-use Rattle.convert.specs.Inner.{magnitude}
+use Rattle.convert.specs.Inner.{found, magnitude}
 use Rattle.convert.proofs.targets.held.Goals.{After-over-ratio, After-saturating_sub-k}
 use Rattle.convert.proofs.targets.held.Goals.{else-k-format-2-via-then-k-format-2+else-ratio-format, else-k-format-2-via-else-k-format-2}
 
@@ -80,7 +80,8 @@ field c = field_small c.saturating_sub-k.result c.args.format.fraction c.args.fo
 pub overflow_add-result : goal.overflow_add-result
 overflow_add-result c =
     let j = (goal.at.overflow_add-result c).After-saturating_sub-k in
-    let d : magnitude c.args.n / 2 ^ (c.saturating_sub-k.result + c.args.format.step) < 2 ^ 53 = digits_few c.args.format.fraction _ c.args.format.narrow (few j) in
+    let d : magnitude c.args.n / 2 ^ (c.saturating_sub-k.result + c.args.format.step) < 2 ^ 53 =
+    digits_few c.args.format.fraction _ c.args.format.narrow (few j) in
     let f = field ((goal.at.overflow_add-result c).After-over-ratio) in
     record { fits = omega (arith, c.over-ratio.ensures.0) }
 
@@ -90,7 +91,7 @@ returns c =
     let a = c.args in
     let f = field ((goal.at.returns c).After-over-ratio) in
     let m : c.saturating_sub-k.result * 2 ^ a.format.fraction % 2 ^ 64 ≡ c.saturating_sub-k.result * 2 ^ a.format.fraction = mod-eq_of_lt (omega arith) in
-    ap (λ (n : ℕ). gives (a.n.negative, n + c.over-ratio.result.quotient)) m
-    ∙ ap (λ (n : ℕ). gives (a.n.negative, c.saturating_sub-k.result * 2 ^ a.format.fraction + n)) c.over-ratio.ensures.0
+    ap (λ (n : ℕ). gives (found a.n.negative (n + c.over-ratio.result.quotient))) m
+    ∙ ap (λ (n : ℕ). gives (found a.n.negative (c.saturating_sub-k.result * 2 ^ a.format.fraction + n))) c.over-ratio.ensures.0
     ∙ held_is a.format.fraction a.format.step (magnitude c.args.n) c.saturating_sub-k.result (k_is j) a.format.last a.n.negative
     (near ((goal.at.returns c).After-over-ratio)) (nothing_left ((goal.at.returns c).After-over-ratio) c.if-ratio.false)

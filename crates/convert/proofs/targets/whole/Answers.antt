@@ -10,6 +10,7 @@ use Rattle.value.specs.Meaning.{unit}
 use Rattle.value.specs.Outcome.{gives}
 use Rattle.convert.proofs.Wholes.{quotient_large, quotient_fits, whole_large}
 use Rattle.convert.proofs.Wholes.{whole_fraction, whole_outside, whole_inside}
+use Rattle.convert.specs.Inner.{found}
 use Rattle.convert.proofs.targets.whole.Goals as goal
 use Rattle.convert.proofs.targets.whole.Goals.{After-over-ratio, Else-n-eq0, Joined-n-2, then-n-2, else-n-2}
 
@@ -22,7 +23,8 @@ some c = mul-pos (some_digit c) (pow_pos c.args.n.shift)
 pub returns-then-size_of-n-gt1138 : goal.returns-then-size_of-n-gt1138
 unfolding unit
 returns-then-size_of-n-gt1138 c =
-    let q = quotient_large c.args.n.digits c.args.n.shift 1074 (some_digit ((goal.at.returns-then-size_of-n-gt1138 c).Else-n-eq0)) (omega (arith, c.size_of.ensures))
+    let q = quotient_large c.args.n.digits c.args.n.shift 1074 (some_digit ((goal.at.returns-then-size_of-n-gt1138 c).Else-n-eq0))
+    (omega (arith, c.size_of.ensures))
     (omega (arith, c.if-size_of-n-gt1138.true, c.size_of.ensures.0)) in
     whole_large c.args.low c.args.high c.args.n.negative (c.args.n.digits * 2 ^ c.args.n.shift)
     (some ((goal.at.returns-then-size_of-n-gt1138 c).Else-n-eq0)) c.ranges.low.fits c.ranges.high.fits
@@ -71,6 +73,6 @@ returns c =
     let l : a.n.digits * 2 ^ a.n.shift / unit ≤ cond a.n.negative a.low a.high =
     subst (λ (n : ℕ). n ≤ cond a.n.negative a.low a.high) (quotient_is ((goal.at.returns c).After-over-ratio))
     (subst (λ (n : ℕ). c.over-ratio.result.quotient ≤ n) (limit_is ((goal.at.returns c).Joined-n-2)) c.if-ratio-limit.false) in
-    ap (λ (n : ℕ). gives (a.n.negative, n)) (quotient_is ((goal.at.returns c).After-over-ratio))
+    ap (λ (n : ℕ). gives (found a.n.negative n)) (quotient_is ((goal.at.returns c).After-over-ratio))
     ∙ whole_inside a.low a.high a.n.negative (a.n.digits * 2 ^ a.n.shift) (some ((goal.at.returns c).Else-n-eq0))
     (sym (fraction_is ((goal.at.returns c).After-over-ratio)) ∙ c.if-ratio.false) l

@@ -37,19 +37,28 @@ returns-in-U64 c =
 
 pub returns-in-I8 : goal.returns-in-I8
 unfolding value_of
-returns-in-I8 c = ap I8 (to_z-of_z w8 _ (record { sfits = search rules }) ∙ c.cast_signed.ensures ∙ reading w8 _ refl) ∙ of_kind c.args.bits c.in-I8.is
+returns-in-I8 c =
+    ap I8 (to_z-of_z w8 _ (record { sfits = search rules }) ∙ c.cast_signed.ensures ∙ reading w8 _ refl)
+    ∙ of_kind c.args.bits c.in-I8.is
 
 pub returns-in-I16 : goal.returns-in-I16
 unfolding value_of
-returns-in-I16 c = ap I16 (to_z-of_z w16 _ (record { sfits = search rules }) ∙ c.cast_signed-in-I16.ensures ∙ reading w16 _ refl) ∙ of_kind c.args.bits c.in-I16.is
+returns-in-I16 c =
+    ap I16 (to_z-of_z w16 _ (record { sfits = search rules }) ∙ c.cast_signed-in-I16.ensures ∙ reading w16 _ refl)
+    ∙ of_kind c.args.bits c.in-I16.is
 
 pub returns-in-I32 : goal.returns-in-I32
 unfolding value_of
-returns-in-I32 c = ap I32 (to_z-of_z w32 _ (record { sfits = search rules }) ∙ c.cast_signed-in-I32.ensures ∙ reading w32 _ refl) ∙ of_kind c.args.bits c.in-I32.is
+returns-in-I32 c =
+    ap I32 (to_z-of_z w32 _ (record { sfits = search rules }) ∙ c.cast_signed-in-I32.ensures ∙ reading w32 _ refl)
+    ∙ of_kind c.args.bits c.in-I32.is
 
 pub returns-in-I64 : goal.returns-in-I64
 unfolding value_of
-returns-in-I64 c = ap I64 (to_z-of_z w64 _ (record { sfits = search rules }) ∙ c.cast_signed-in-I64.ensures ∙ reading w64 _ refl ∙ ap (from_twos (2 ^ 63)) (sym (whole c.args.bits (search rules)))) ∙ of_kind c.args.bits c.in-I64.is
+returns-in-I64 c =
+    ap I64 (to_z-of_z w64 _ (record { sfits = search rules }) ∙ c.cast_signed-in-I64.ensures ∙ reading w64 _ refl
+    ∙ ap (from_twos (2 ^ 63)) (sym (whole c.args.bits (search rules))))
+    ∙ of_kind c.args.bits c.in-I64.is
 
 pub returns-in-F32 : goal.returns-in-F32
 unfolding value_of
