@@ -1,44 +1,17 @@
 -- What was seen grows sample by sample; so looking at a block behind another is looking at both joined.
 use Rattle.value.specs.declared.Refusal.{Refusal}
-use Rattle.std.specs.Prelude.{Option, Result, Err, None, Ok, Some}
-use Rattle.std.proofs.Common.{◌≡◌, ℕ, ◌+◌, ◌<◌, Bool, true, false, cond, List, [], ◌∷◌, ◌++◌, length, get_or, take, sym, refl, ap, ◌∙◌, true≢false}
+use Rattle.std.specs.Prelude.{Option, Result}
+use Rattle.std.proofs.Common.{◌≡◌, ℕ, ◌+◌, ◌<◌, Bool, true, cond, List, [], ◌∷◌, ◌++◌, length, get_or, take, sym, refl, ap, ◌∙◌}
 use Rattle.std.proofs.Common.{add-one, take-suc, eq-eqb, ne_eqb}
 use Rattle.value.specs.declared.Kind.{Kind}
 use Rattle.value.specs.declared.Value.{Value}
-use Rattle.value.specs.Outcome.{Outcome, gives, refuses}
 use Rattle.look.specs.declared.Seen.{Seen}
 use Rattle.sample.specs.Samples.{left_of, samples_of}
-use Rattle.sample.specs.Refusals.{bits_to, is_refused, refusal_number, refused_to}
-use Rattle.look.specs.Report.{says, unlike_itself, infinite, minus_zero, better_of, lower_of, higher_of, count_if, first_of}
+use Rattle.sample.specs.Refusals.{bits_to, refused_to}
+use Rattle.look.specs.Report.{unlike_itself, infinite, minus_zero, lower_of, higher_of, count_if, first_of}
 use Rattle.look.specs.Report.{noted_of, all_noted, left_noted, look_of}
 
 -- ---- one sample
-
-module _ (test : Value → Value → Outcome Bool) {f : Option Value} (v : Value) {t : Bool} where
-  pub better_first : f ≡ None → t ≡ unlike_itself v → cond t f (Some v) ≡ better_of test f v
-  better_first p q =
-      ap (λ (b : Bool). cond b f (Some v)) q ∙ ap (λ (g : Option Value). cond (unlike_itself v) g (Some v)) p ∙ sym (ap (λ (g : Option Value). better_of test g v) p)
-
-  pub better_next : {a : Value} → f ≡ Some a → t ≡ says (test v a) → cond t (Some v) (Some a) ≡ better_of test f v
-  better_next {a} p q = ap (λ (b : Bool). cond b (Some v) (Some a)) q ∙ sym (ap (λ (g : Option Value). better_of test g v) p)
-
-pub first_stays : (o : Outcome ℕ) (at : ℕ) {r : Result (Unit {0}) Refusal} {f : _} → r ≡ Err f → r ≡ first_of r at o
-first_stays o at p = p ∙ sym (ap (λ (q : Result (Unit {0}) Refusal). first_of q at o) p)
-
-refused_first : (o : Outcome ℕ) (at : ℕ) → is_refused o ≡ true → Err (record { number = refusal_number o; place = at }) ≡ first_of (Ok tt) at o
-refused_first (gives b) at h = absurd (true≢false (sym h))
-refused_first (refuses m p) at h = refl
-
-given_first : (o : Outcome ℕ) (at : ℕ) → is_refused o ≡ false → Ok tt ≡ first_of (Ok tt) at o
-given_first (gives b) at h = refl
-given_first (refuses m p) at h = absurd (true≢false h)
-
-pub first_bad : (o : Outcome ℕ) (at : ℕ) {r : Result (Unit {0}) Refusal} {m : ℕ} → r ≡ Ok tt → is_refused o ≡ true → m ≡ refusal_number o
-    → Err (record { number = m; place = at }) ≡ first_of r at o
-first_bad o at p h q = ap (λ (k : ℕ). Err (record { number = k; place = at })) q ∙ refused_first o at h ∙ sym (ap (λ (r : Result (Unit {0}) Refusal). first_of r at o) p)
-
-pub first_good : (o : Outcome ℕ) (at : ℕ) {r : Result (Unit {0}) Refusal} → r ≡ Ok tt → is_refused o ≡ false → r ≡ first_of r at o
-first_good o at p h = p ∙ given_first o at h ∙ sym (ap (λ (r : Result (Unit {0}) Refusal). first_of r at o) p)
 
 module _ (to : Kind) (s : Seen) (v : Value) where
   pub noted_is : {n m i z r : ℕ} {l h : Option Value} {a : Result (Unit {0}) Refusal}

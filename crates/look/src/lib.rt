@@ -9,7 +9,7 @@ pub use looks::look_block;
 use value::{Refusal, Value};
 
 // What was seen of samples: how many there were, how many of them are NaN, infinities and minus zeros, the lowest and the highest, how many
-// a conversion would refuse, and what it would answer; before the first, none, Nothing and Done.
+// a conversion would refuse, and what it would answer; before the first, 0, None and Ok.
 #[derive(Clone, Copy)]
 pub struct Seen {
     pub samples: usize,

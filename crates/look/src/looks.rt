@@ -1,31 +1,23 @@
 // What a report says of samples, noted one by one: nothing is written. RULES.md: Report.
-ghost use Rattle.value.specs.Outcome.{outcome_of};
-ghost use Rattle.std.specs.Prelude.{◌≡◌, if◌then◌else◌};
+ghost use Rattle.value.specs.Outcome.{Outcome, mapped, outcome_of};
+ghost use Rattle.std.specs.Prelude.{◌≡◌, Bool};
+ghost use Rattle.value.specs.declared.Value.{Value};
+ghost use Rattle.value.specs.Meaning.{bits_of};
 ghost use Rattle.sample.specs.Samples.{samples_of};
-ghost use Rattle.sample.specs.Refusals.{bits_to, refused_to};
-ghost use Rattle.look.specs.Report.{says, unlike_itself, infinite, minus_zero, lower_of, higher_of, count_if, first_of, noted_of, all_noted};
+ghost use Rattle.look.specs.Report.{unlike_itself, infinite, minus_zero, better_of, count_if, first_of, noted_of, all_noted};
 ghost use Rattle.look.specs.Report.{left_noted, look_of};
 
 use crate::Seen;
 use cmp::{gt, lt, ne};
+use convert::convert;
 use float::{is_infinite_f16, is_infinite_f32, is_infinite_f64};
-use sample::{count, is_refused, number_of, sample_at};
-use std::num::wrapping_add_usize;
+use sample::{count, sample_at};
 use value::{Kind, Refusal, Value, bits_f32, bits_f64, bytes_of};
-
-fn is_yes(t: Result<bool, Refusal>) -> bool
-    ensures { result ≡ says (outcome_of t) }
-{
-    match t {
-        Ok(yes) => yes,
-        Err(_) => false,
-    }
-}
 
 fn is_nan(v: Value) -> bool
     ensures { result ≡ unlike_itself v }
 {
-    is_yes(ne(v, v))
+    ne(v, v).unwrap_or(false)
 }
 
 fn is_infinite(v: Value) -> bool
@@ -50,89 +42,67 @@ fn is_minus_zero(v: Value) -> bool
     }
 }
 
-fn chosen(t: bool, one: Option<Value>, other: Option<Value>) -> Option<Value>
-    ensures { result ≡ (if t then one else other) }
-{
-    if t { one } else { other }
-}
-
-fn lower(f: Option<Value>, v: Value) -> Option<Value>
-    ensures { result ≡ lower_of f v }
-{
-    match f {
-        None => chosen(is_nan(v), f, Some(v)),
-        Some(a) => chosen(is_yes(lt(v, a)), Some(v), f),
-    }
-}
-
-fn higher(f: Option<Value>, v: Value) -> Option<Value>
-    ensures { result ≡ higher_of f v }
-{
-    match f {
-        None => chosen(is_nan(v), f, Some(v)),
-        Some(a) => chosen(is_yes(gt(v, a)), Some(v), f),
-    }
-}
-
 fn count_if(t: bool, n: usize) -> usize
     ensures { result ≡ count_if t n }
 {
-    if t { wrapping_add_usize(n, 1) } else { n }
+    n.wrapping_add(t as usize)
 }
 
-// `bad` is whether the sample, which has the index `at`, is refused.
-fn first_refusal(
-    r: Result<(), Refusal>,
-    at: usize,
-    bad: bool,
+// What was found so far, or v where it passes the test against that; a NaN is never found.
+fn better<T: Fn(Value, Value) -> Result<bool, Refusal>>(
+    found: Option<Value>,
     v: Value,
-    to: Kind,
-) -> Result<(), Refusal>
-    requires { bad ≡ refused_to to v }
-    ensures { result ≡ first_of r at (bits_to to v) }
+    test: T,
+) -> Option<Value>
+    requires { T.IsAlwaysCallable test }
+    ensures { (told : Value → Value → Outcome Bool)
+        → ((x a : Value) (r : _) → T.post test x a r → outcome_of r ≡ told x a) → result ≡ better_of told found v }
 {
-    match r {
-        Err(_) => r,
-        Ok(()) => {
-            if bad {
-                return Err(Refusal {
-                    number: number_of(v, to),
-                    place: at,
-                });
-            }
-            r
-        }
+    let passes = match found {
+        Some(a) => test(v, a).unwrap_or(false),
+        None => !is_nan(v),
+    };
+    if passes { Some(v) } else { found }
+}
+
+// What the samples before, of which there were `at`, are answered, or the refusal of this one.
+fn first_refusal(
+    before: Result<(), Refusal>,
+    at: usize,
+    this: Result<Value, Refusal>,
+) -> Result<(), Refusal>
+    ensures { result ≡ first_of before at (mapped bits_of (outcome_of this)) }
+{
+    before?;
+    match this {
+        Ok(_) => Ok(()),
+        Err(f) => Err(Refusal { place: at, ..f }),
     }
 }
 
+// The tests are closures, since a function of another crate that is passed by its name gets no proof.
 fn noted(s: Seen, v: Value, to: Kind) -> Seen
     ensures { result ≡ noted_of to s v }
 {
-    let bad = is_refused(v, to);
-    let lowest = s.lowest;
-    let highest = s.highest;
-    let answer = s.answer;
+    let converted = convert(v, to);
     Seen {
         samples: count_if(true, s.samples),
         nans: count_if(is_nan(v), s.nans),
         infinities: count_if(is_infinite(v), s.infinities),
         minus_zeros: count_if(is_minus_zero(v), s.minus_zeros),
-        lowest: lower(lowest, v),
-        highest: higher(highest, v),
-        refusable: count_if(bad, s.refusable),
-        answer: first_refusal(answer, s.samples, bad, v, to),
+        lowest: better(s.lowest, v, |x, a| lt(x, a)),
+        highest: better(s.highest, v, |x, a| gt(x, a)),
+        refusable: count_if(converted.is_err(), s.refusable),
+        answer: first_refusal(s.answer, s.samples, converted),
     }
 }
 
 fn all_noted(s: Seen, from: Kind, to: Kind, src: &[u8]) -> Seen
     ensures { result ≡ all_noted to s (samples_of from src.now) }
 {
-    let n = count(from, src);
     let mut seen = s;
-    let mut i = 0;
-    while i < n {
+    for i in 0..count(from, src) {
         seen = noted(seen, sample_at(from, src, i), to);
-        i += 1;
     }
     seen
 }
@@ -140,20 +110,12 @@ fn all_noted(s: Seen, from: Kind, to: Kind, src: &[u8]) -> Seen
 fn left_noted(s: Seen) -> Seen
     ensures { result ≡ left_noted s }
 {
-    let lowest = s.lowest;
-    let highest = s.highest;
     Seen {
-        samples: s.samples,
-        nans: s.nans,
-        infinities: s.infinities,
-        minus_zeros: s.minus_zeros,
-        lowest,
-        highest,
-        refusable: s.refusable,
         answer: Err(Refusal {
             number: 9,
             place: s.samples,
         }),
+        ..s
     }
 }
 

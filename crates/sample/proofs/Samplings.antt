@@ -2,7 +2,7 @@
 use mathlib.Core.Path.{◌≡◌, refl, sym, ◌∙◌, ap, subst}
 use mathlib.Core.List.{List, [], ◌∷◌, ◌++◌, map}
 use Prim.Native.Nat.{ℕ, zero, suc, ◌+◌, ◌*◌, ◌≤◌, ◌<◌}
-use native.Mathlib.Nat.{div-mul-le_self, zero-mul, mul-zero, suc-mul, mul-suc, add_comm, le_trans, mul-le-mul_right, le_of_suc-le-suc, not-suc-le-zero}
+use native.Mathlib.Nat.{zero-mul, mul-zero, suc-mul, mul-suc, add_comm, le_trans, mul-le-mul_right, le_of_suc-le-suc, not-suc-le-zero}
 use native.Mathlib.Omega.{arith}
 use lib.ListN.{length, take, drop, get_or}
 use lib.Seq.{drop-drop}
@@ -12,10 +12,6 @@ use Rattle.value.specs.Meaning.{value_of}
 use Rattle.value.specs.Kinds.{bytes_of}
 use Rattle.bytewise.specs.Numbers.{from_little_endian}
 use Rattle.sample.specs.Samples.{numbers_in, samples_in, count_of, samples_of, sample_at}
-
--- a number of samples that came by division is inside
-pub count_inside : (k : Kind) (bytes : List ℕ) {n : ℕ} → n ≡ count_of k bytes → n * bytes_of k ≤ length bytes
-count_inside k bytes q = rw q (div-mul-le_self (length bytes) (bytes_of k))
 
 -- the last byte of the sample at i is inside
 pub sample_inside : (i n w l : ℕ) → i < n → n * w ≤ l → i * w + w ≤ l
@@ -91,10 +87,6 @@ behind (x ∷ l) zero d h = absurd (not-suc-le-zero h)
 behind (x ∷ l) (suc i) d h = behind l i d (le_of_suc-le-suc h)
 
 module _ (k : Kind) (bytes : List ℕ) (i : ℕ) where
-  -- its last byte is inside
-  pub at_inside : i < count_of k bytes → i * bytes_of k + bytes_of k ≤ length bytes
-  at_inside h = sample_inside i (count_of k bytes) (bytes_of k) (length bytes) h (count_inside k bytes refl)
-
   pub at_here : i < count_of k bytes → value_of k (from_little_endian (take (bytes_of k) (drop (i * bytes_of k) bytes))) ≡ sample_at k bytes i
   at_here h = sym (sample_here k (count_of k bytes) bytes i (value_of k 0) h)
 

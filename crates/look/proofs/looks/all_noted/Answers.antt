@@ -15,7 +15,7 @@ loop-i-preserved c =
     let a = c.args in
     let l = samples_of a.from a.src.now in
     let below : c.loop-i.i < length l =
-    omega (arith, length_samples a.from (count_of a.from a.src.now) a.src.now, c.count-n.ensures, c.loop-i-test.true) in
+    omega (arith, length_samples a.from (count_of a.from a.src.now) a.src.now, c.count-i-end.ensures, c.loop-i-test.true) in
     c.noted-seen.ensures ∙ noted_more a.to a.s l c.loop-i.i (value_of a.from 0) below (sym c.sample_at.ensures) c.loop-i.invariant
 
 pub returns : goal.returns
@@ -24,4 +24,4 @@ returns c =
     let l = samples_of a.from a.src.now in
     c.loop-i.invariant ∙ ap (all_noted a.to a.s)
     (take_all c.loop-i.i l
-    (omega (arith, length_samples a.from (count_of a.from a.src.now) a.src.now, c.count-n.ensures, c.loop-i-test.false)))
+    (omega (arith, length_samples a.from (count_of a.from a.src.now) a.src.now, c.count-i-end.ensures, c.loop-i-test.false)))
