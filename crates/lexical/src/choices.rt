@@ -7,40 +7,36 @@ ghost use Rattle.lexical.specs.Inner.{chosen_from};
 
 use crate::comparisons::{Decision, decide};
 use float::Order;
-use record::{Record, Recorded, refused};
+use record::{Record, Recorded};
 use value::Refusal;
 
 // The other one when the order is Greater, else the first.
-fn chosen_by(d: Result<Decision, Refusal>, one: Record, other: Record) -> Recorded
-    ensures { result ≡ recorded_of (and_then (outcome_of d) (chosen_from one other)) }
+fn chosen_by(
+    decision: Result<Decision, Refusal>,
+    one: Record,
+    other: Record,
+) -> Result<Record, Refusal>
+    ensures { outcome_of result ≡ and_then (outcome_of decision) (chosen_from one other) }
 {
-    match d {
-        Ok(x) => {
-            let o = x.order;
-            match o {
-                Order::Unordered => refused(8, x.at),
-                Order::Greater => Recorded {
-                    outcome: Ok(()),
-                    record: other,
-                },
-                _ => Recorded {
-                    outcome: Ok(()),
-                    record: one,
-                },
-            }
-        }
-        Err(f) => refused(f.number, f.place),
+    let d = decision?;
+    match d.order {
+        Order::Unordered => Err(Refusal {
+            number: 8,
+            place: d.at,
+        }),
+        Order::Greater => Ok(other),
+        _ => Ok(one),
     }
 }
 
 pub fn min(a: Record, b: Record) -> Recorded
     ensures { result ≡ recorded_of (min_of a b) }
 {
-    chosen_by(decide(a, b), a, b)
+    Recorded::from(chosen_by(decide(a, b), a, b))
 }
 
 pub fn max(a: Record, b: Record) -> Recorded
     ensures { result ≡ recorded_of (max_of a b) }
 {
-    chosen_by(decide(a, b), b, a)
+    Recorded::from(chosen_by(decide(a, b), b, a))
 }
