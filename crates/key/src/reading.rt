@@ -12,7 +12,7 @@ use record::{Field, Recorded, Shape, bad_count, blank, refused};
 use value::{Kind, Value, bytes_of, value_of};
 
 // The number whose bytes, high byte first, these are.
-fn number_in(bytes: &[u8]) -> u64
+fn read_number(bytes: &[u8]) -> u64
     requires { length bytes.now ≤ 8 }
     ensures { (result ≡ from_big_endian 0 bytes.now) × (result < 256 ^ length bytes.now) }
 {
@@ -29,7 +29,7 @@ fn value_in(k: Kind, key: &[u8]) -> Option<Value>
     ensures { result ≡ value_by_number k (from_big_endian 0 key.now) }
 {
     let weights = Weights::of(k);
-    let bits = weights.bits(number_in(key));
+    let bits = weights.bits(read_number(key));
     if weights.is_foreign(bits) {
         None
     } else {

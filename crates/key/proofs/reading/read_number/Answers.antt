@@ -1,7 +1,7 @@
 -- n is the number of the bytes so far.
 use native.Mathlib.Omega.{arith}
 use Rattle.key.proofs.NumberBytes.{gather_none, gather_step}
-use Rattle.key.proofs.reading.number_in.Goals as goal
+use Rattle.key.proofs.reading.read_number.Goals as goal
 
 pub loop-byte-init : goal.loop-byte-init
 loop-byte-init c = gather_none c.args.bytes.now
