@@ -197,7 +197,8 @@ module _ (s : Shape) (key : List ℕ) {t : Bool} (count_is : t ≡ bad_count s.c
     read_start twelve h e = rw e (
       h ∙ length_is,
       refl,
-      finish_blank s.count (read_fields 0 (kinds_in s) key) (λ fs q. read_length 0 (kinds_in s) key fs q ∙ count_kinds s (good_count s.count (sym count_is ∙ count_good)) twelve)
+      finish_blank s.count (read_fields 0 (kinds_in s) key)
+          (λ fs q. read_length 0 (kinds_in s) key fs q ∙ count_kinds s (good_count s.count (sym count_is ∙ count_good)) twelve)
           ∙ sym (ap recorded_of (read_by s key) ∙ rw (← count_is, count_good, ← length_is, eq-eqb (length key) n h)),
     )
 

@@ -32,7 +32,8 @@ pub by_length : (xs ys : List Field) → (length xs ≡ length ys → ⊥) → n
 by_length xs ys n =
     rw (ne_eqb (length xs) (length ys) n) (otherwise_true (shapes_differ xs ys) (λ s. n (same_lengths xs ys s)))
 
-pub by_kinds : (xs ys : List Field) → length xs ≡ length ys → list_any (λ (p : Field × Field). kinds_differ p.0.value p.1.value) (zip xs ys) ≡ shapes_differ xs ys
+pub by_kinds : (xs ys : List Field) → length xs ≡ length ys
+    → list_any (λ (p : Field × Field). kinds_differ p.0.value p.1.value) (zip xs ys) ≡ shapes_differ xs ys
 unfolding shapes_differ
 by_kinds [] [] e = refl
 by_kinds [] (y ∷ ys) e = absurd (omega arith)

@@ -7,36 +7,32 @@ ghost use Rattle.lexical.specs.Inner.{chosen_from};
 
 use crate::comparisons::{Decision, decide};
 use float::Order;
-use record::{Record, Recorded};
+use record::{Record, Recorded, refused};
 use value::Refusal;
 
 // The other one when the order is Greater, else the first.
-fn chosen_by(
-    decision: Result<Decision, Refusal>,
-    one: Record,
-    other: Record,
-) -> Result<Record, Refusal>
-    ensures { outcome_of result ≡ and_then (outcome_of decision) (chosen_from one other) }
+// The refusal has an arm and is no `?`: what is handed back is a Recorded, and `recorded_of` owes the blank record in that arm.
+fn chosen_by(decision: Result<Decision, Refusal>, one: Record, other: Record) -> Recorded
+    ensures { result ≡ recorded_of (and_then (outcome_of decision) (chosen_from one other)) }
 {
-    let d = decision?;
-    match d.order {
-        Order::Unordered => Err(Refusal {
-            number: 8,
-            place: d.at,
-        }),
-        Order::Greater => Ok(other),
-        _ => Ok(one),
+    match decision {
+        Ok(d) => match d.order {
+            Order::Unordered => refused(8, d.at),
+            Order::Greater => Recorded::from(Ok(other)),
+            _ => Recorded::from(Ok(one)),
+        },
+        Err(f) => refused(f.number, f.place),
     }
 }
 
 pub fn min(a: Record, b: Record) -> Recorded
     ensures { result ≡ recorded_of (min_of a b) }
 {
-    Recorded::from(chosen_by(decide(a, b), a, b))
+    chosen_by(decide(a, b), a, b)
 }
 
 pub fn max(a: Record, b: Record) -> Recorded
     ensures { result ≡ recorded_of (max_of a b) }
 {
-    Recorded::from(chosen_by(decide(a, b), b, a))
+    chosen_by(decide(a, b), b, a)
 }

@@ -10,4 +10,4 @@ pub returns : goal.returns
 returns c =
     let a = c.args.a in
     let b = c.args.b in
-    c.from.ensures ∙ ap recorded_of (c.chosen_by.ensures ∙ ap (λ o. and_then o (chosen_from b a)) c.decide.ensures ∙ max_decided a b)
+    c.chosen_by.ensures ∙ ap recorded_of (ap (λ o. and_then o (chosen_from b a)) c.decide.ensures ∙ max_decided a b)
