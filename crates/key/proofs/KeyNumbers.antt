@@ -1,30 +1,28 @@
 -- The number of a key from a value's bits, and the bits from the number: each form once, over the weight of its sign bit.
 use mathlib.Core.Path.{◌≡◌, refl, sym, ◌∙◌, ap, subst}
-use Prim.Native.Nat.{ℕ, suc, ◌+◌, ◌-◌, ◌*◌, ◌%◌, ◌^◌, ◌≤◌, ◌<◌}
-use native.Mathlib.Nat.{mod-eq_of_lt, mod-eq-sub-mod, one-mul, pow-suc}
+use mathlib.Core.Bool.{Bool, true, false}
+use Rattle.std.specs.Prelude.{None, Some}
+use Prim.Native.Nat.{ℕ, ◌+◌, ◌-◌, ◌*◌, ◌%◌, ◌^◌, ◌≤◌, ◌<◌}
+use native.Mathlib.Nat.{mod-eq_of_lt, mod-eq-sub-mod, pow-suc}
 use native.Mathlib.Omega.{arith}
-use borrow.Author.Tests.{eq-eqb, ne_eqb, lt-ltb, le-ltb, le-leb, lt-leb}
 use lib.IntN.{ℤ, pos, negsuc}
-use lib.Pow.{pow_mono, pow-lt}
+use lib.Pow.{pow_mono}
 use Rattle.float.specs.Format.{fraction_of, exponent_of, abs_of}
 use Rattle.float.specs.Number.{is_none}
 use Rattle.float.specs.Order.{pattern_in}
 use Rattle.float.proofs.Language.{times_none, none_pattern}
 use Rattle.value.specs.declared.Kind.{Kind}
-use Rattle.value.specs.declared.Layout.{Layout}
-use Rattle.value.specs.declared.Layout.TheVariants as layout
 use Rattle.value.specs.declared.Value.{Value}
-use Rattle.value.specs.Kinds.{Form, unsigned, signed, floating, form_of, layout_for, width_in, kind_of, bytes_of}
+use Rattle.value.specs.Kinds.{Form, unsigned, signed, floating, form_of, width_in, kind_of, bytes_of}
 use Rattle.value.specs.Meaning.{Content, natural, integer, real, content_of, InRange, FitsSigned, twos_of, bits_of, step_of, exact_in, exact_of}
 use Rattle.value.specs.Meaning as value
 use Rattle.key.specs.declared.Weights.{Weights}
-use Rattle.key.specs.declared.Weights.TheVariants as weights
-use Rattle.key.specs.Key.{shifted, float_key, pattern_from, key_in, key_number, bits_from, not_canonical}
-use Rattle.key.specs.Inner.{weights_for, InWeights, number_by_weights, bits_by_weights, abs_by_weight, nan_by_weights, foreign_by_weights}
+use Rattle.key.specs.Key.{shifted, key_in, key_number, bits_from, not_canonical}
+use Rattle.key.specs.Inner.{weights_for, InWeights, number_by_weights, bits_by_weights, nan_by_weights, foreign_by_weights, value_by_number}
 use Rattle.value.proofs.Widths.{Sized, kind_sized}
 use Rattle.value.proofs.Ranges.{form_in, content_form, Ranged, content_ranged, twice_half, bits_range}
 
--- ---- the steps of the code
+-- ---- the sign bit turned
 
 module _ (half n : ℕ) where
   pub turned_low : n < half → n + half ≡ (n + half) % (2 * half)
@@ -36,79 +34,6 @@ module _ (half n : ℕ) where
       let r : n + half - 2 * half ≡ n - half = omega arith in
       let s : n + half - 2 * half < 2 * half = omega arith in
       sym (mod-eq-sub-mod g ∙ mod-eq_of_lt s ∙ r)
-
-  pub number_zero : n ≡ half → half ≡ float_key half n
-  number_zero q = rw (eq-eqb n half q)
-
-  pub number_negative : (n ≡ half → ⊥) → half ≤ n → half - 1 - (n - half) ≡ float_key half n
-  number_negative d h = rw (ne_eqb n half d, le-leb half n h) (omega arith)
-
-  pub number_positive : (n ≡ half → ⊥) → n < half → half + n ≡ float_key half n
-  number_positive d h = rw (ne_eqb n half d, lt-leb half n h)
-
-  pub pattern_negative : n < half → half - 1 - n + half ≡ pattern_from half n
-  pattern_negative h = rw (lt-ltb n half h) (omega arith)
-
-  pub pattern_positive : half ≤ n → n - half ≡ pattern_from half n
-  pattern_positive h = rw (le-ltb n half h)
-
-  pub abs_negative : half ≤ n → n - half ≡ abs_by_weight half n
-  abs_negative h = rw (le-leb half n h)
-
-  pub abs_positive : n < half → n ≡ abs_by_weight half n
-  abs_positive h = rw (lt-leb half n h)
-
--- ---- the weights, as the code has them from the layout
-
--- the machine's weight of a bit
-bit_weight : (i : ℕ) → i < 64 → 1 * 2 ^ i % 2 ^ 64 ≡ 2 ^ i
-bit_weight i h = ap (λ (n : ℕ). n % 2 ^ 64) (one-mul (2 ^ i)) ∙ mod-eq_of_lt (pow-lt {i = i} {j = 64} h)
-
-abbrev weights_from : Layout → Weights
-weights_from (layout.Unsigned n) = weights.Unsigned
-weights_from (layout.Signed n) = weights.Signed (2 ^ (n - 1))
-weights_from (layout.Float n p) = weights.Float (2 ^ (n - 1)) (2 ^ (n - 1) - 2 ^ p)
-
-form_weights : (form : Form) → weights_from (layout_for form) ≡ weights_for form
-form_weights (unsigned n) = refl
-form_weights (signed n) = refl
-form_weights (floating f) =
-    let q : suc (fraction_of f + exponent_of f) - 1 ≡ fraction_of f + exponent_of f = omega arith in
-    ap (λ (i : ℕ). weights.Float (2 ^ i) (2 ^ i - 2 ^ fraction_of f)) q
-
-pub signed_weights : (n : ℕ) → 8 ≤ n → n ≤ 64 → weights.Signed (1 * 2 ^ (n - 1) % 2 ^ 64) ≡ weights_from (layout.Signed n)
-signed_weights n l h = ap weights.Signed (bit_weight (n - 1) (omega arith))
-
-module _ (n p : ℕ) (l : 8 ≤ n) (h : n ≤ 64) (b : p < n) where
-  fraction_weight : 1 * 2 ^ p % 2 ^ 64 ≡ 2 ^ p
-  fraction_weight = bit_weight p (omega arith)
-
-  sign_weight : 1 * 2 ^ (n - 1) % 2 ^ 64 ≡ 2 ^ (n - 1)
-  sign_weight = bit_weight (n - 1) (omega arith)
-
-  pub below_sign : 1 * 2 ^ p % 2 ^ 64 ≤ 1 * 2 ^ (n - 1) % 2 ^ 64
-  below_sign = rw (fraction_weight, sign_weight) (pow_mono {i = p} {j = n - 1} (omega arith))
-
-  pub float_weights : weights.Float (1 * 2 ^ (n - 1) % 2 ^ 64) (1 * 2 ^ (n - 1) % 2 ^ 64 - 1 * 2 ^ p % 2 ^ 64) ≡ weights_from (layout.Float n p)
-  float_weights = rw (fraction_weight, sign_weight)
-
--- the fraction is a part of a float's bits
-abbrev Inside : Layout → Type 0
-Inside (layout.Unsigned n) = Unit
-Inside (layout.Signed n) = Unit
-Inside (layout.Float n p) = p < n
-
-form_inside : (form : Form) → Inside (layout_for form)
-form_inside (unsigned n) = tt
-form_inside (signed n) = tt
-form_inside (floating f) = omega arith
-
-pub fraction_told : (k : Kind) {m : Layout} {n p : ℕ} → m ≡ layout_for (form_of k) → m ≡ layout.Float n p → p < n
-fraction_told k q told = subst Inside (sym q ∙ told) (form_inside (form_of k))
-
--- the arm of l in a match on the layout of k
-pub weights_told : (k : Kind) {l m : Layout} → m ≡ layout_for (form_of k) → m ≡ l → weights_from l ≡ weights_for (form_of k)
-weights_told k q told = ap weights_from (sym told ∙ q) ∙ form_weights (form_of k)
 
 -- ---- the forms
 
@@ -173,3 +98,19 @@ module _ (v : Value) {k : Kind} {b : ℕ} {l : Weights} (k_is : k ≡ kind_of v)
 
 pub number_room : (k : Kind) {n : ℕ} {l : Weights} → l ≡ weights_for (form_of k) → n < 256 ^ bytes_of k → InWeights l n
 number_room k {n} q h = rw q (form_room (form_of k) n (kind_sized k) (rw (kind_sized k).2 at h))
+
+module _ (k : Kind) {l : Weights} (l-is : l ≡ weights_for (form_of k)) {m n b : ℕ} (m-is : m ≡ n) (b-is : b ≡ bits_by_weights l m)
+    {t : Bool} (t-is : t ≡ foreign_by_weights l b) where
+  own_bits : b ≡ bits_from (form_of k) n
+  own_bits = b-is ∙ ap (λ (i : Weights). bits_by_weights i m) l-is ∙ form_bits (form_of k) m (kind_sized k) ∙ ap (bits_from (form_of k)) m-is
+
+  own_test : t ≡ not_canonical (form_of k) n
+  own_test =
+      t-is ∙ ap (foreign_by_weights l) b-is ∙ ap (λ (i : Weights). foreign_by_weights i (bits_by_weights i m)) l-is
+      ∙ form_foreign (form_of k) m ∙ ap (not_canonical (form_of k)) m-is
+
+  pub no_value : t ≡ true → None ≡ value_by_number k n
+  no_value f = rw (← own_test, f)
+
+  pub some_value : t ≡ false → {v : Value} → v ≡ value.value_of k b → Some v ≡ value_by_number k n
+  some_value f q = rw (← own_test, f, q, own_bits)

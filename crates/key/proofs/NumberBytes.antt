@@ -1,12 +1,14 @@
--- Bytes laid into a buffer, and the bytes of a number, high byte first: the last byte is laid down first.
+-- Bytes laid into a buffer, and the bytes of a number, high byte first: the last of eight.
 use mathlib.Core.Path.{◌≡◌, refl, sym, ◌∙◌, ap}
 use mathlib.Core.List.{List, [], ◌∷◌, ◌++◌, append_assoc}
 use Prim.Native.Nat.{ℕ, zero, suc, ◌+◌, ◌-◌, ◌*◌, ◌/◌, ◌%◌, ◌^◌, ◌≤◌, ◌<◌}
-use native.Mathlib.Nat.{add_assoc, add-zero, pow-suc, pow-le-pow_right, lt_of_lt_of_le, zero-lt-suc}
-use native.Mathlib.Numerals.{add-one, sub-one}
+use native.Mathlib.Nat.{add_assoc, add-zero, pow-suc, pow-succ', div-div-eq-div-mul, pow-le-pow_right, lt_of_lt_of_le, zero-lt-suc}
+use native.Mathlib.Numerals.{add-one}
 use native.Mathlib.Omega.{arith}
-use lib.ListN.{length, take, drop, get_or, set, length-append, length-drop, length-set, take-append-drop}
-use lib.Seq.{length-take-le, take_at, drop_at, drop-drop, take-set-le, set_split, take-suc, get_or-drop}
+use lib.ListN.{length, take, drop, get_or, length-append, length-drop, take-append-drop}
+use lib.Seq.{length-take-le, take_all, take_at, drop_at, drop-drop, take-suc}
+use borrow.Rule.Slice.PartMut.{put_mid}
+use Rattle.std.specs.Int.{w64, byte_at, bytes_high_first, to_be_bytes}
 use Rattle.bytewise.specs.Numbers.{big_endian, from_big_endian}
 use Rattle.key.specs.Inner.{put}
 use Rattle.bytewise.proofs.BigEndian.{length_big, number_snoc}
@@ -43,63 +45,64 @@ module _ (at : ℕ) (k l : List ℕ) (h : at + length k ≤ length l) where
       ∙ ap (λ (j : ℕ). drop j l) (add_assoc at (length k) (length m) ∙ ap (λ (j : ℕ). at + j) (sym (length-append k m))) in
       rw (head, tail) (simp append_assoc)
 
--- one byte behind them, laid down before
-put_last : (at : ℕ) (k l : List ℕ) (x : ℕ) → at + length k < length l → put at k (set l (at + length k) x) ≡ put at (k ++ (x ∷ [])) l
+-- what was written in a part of the buffer was laid there
+pub mid_put : (at k : ℕ) (l part : List ℕ) → k ≡ length part → put_mid at k l part ≡ put at part l
 unfolding put
-put_last at k l x h =
-    let tail : drop (at + length k) (set l (at + length k) x) ≡ x ∷ drop (suc (at + length k)) l =
-    ap (drop (at + length k)) (set_split l (at + length k) x h)
-    ∙ drop_at (take (at + length k) l) (x ∷ drop (suc (at + length k)) l) (at + length k) (length-take-le _ _ (omega arith)) in
-    let more : at + length (k ++ (x ∷ [])) ≡ suc (at + length k) = simp length-append (omega arith) in
-    rw (take-set-le at l (at + length k) x (omega arith), tail, more) (simp append_assoc)
+mid_put at k l part e = rw (e, drop-drop (length part) at l)
 
--- ---- writing a number: `left` bytes are still to be laid down, those of `rest`
+-- the part is as long as it was asked for
+pub part_length : (at k : ℕ) (l : List ℕ) → at + k ≤ length l → length (take (at + k - at) (drop at l)) ≡ k
+part_length at k l h = length-take-le (at + k - at) (drop at l) (rw length-drop (omega arith)) ∙ omega arith
 
-module _ (to width n : ℕ) (old : List ℕ) where
-  abbrev pub Laying : List ℕ → ℕ → ℕ → Type 0
-  Laying now left rest = (left ≤ width) × (length now ≡ length old) × (put to (big_endian left rest) now ≡ put to (big_endian width n) old)
+-- ---- writing a number: the last bytes of eight
 
-  lay_last : (now : List ℕ) (left rest : ℕ) → 0 < left → to + left ≤ length now
-      → put to (big_endian (left - 1) (rest / 256)) (set now (to + (left - 1)) (rest % 256)) ≡ put to (big_endian left rest) now
-  unfolding big_endian
-  lay_last now zero rest some h = absurd (omega arith)
-  lay_last now (suc w) rest some h =
-      let e : length (big_endian w (rest / 256)) ≡ w = length_big w (rest / 256) in
-      rw sub-one (rw e at (put_last to (big_endian w (rest / 256)) now (rest % 256) (omega arith)))
+high_behind : (j k n : ℕ) → drop j (bytes_high_first (j + k) n) ≡ bytes_high_first k n
+high_behind zero k n = ap (λ (i : ℕ). bytes_high_first i n) (let e : 0 + k ≡ k = omega arith in e)
+high_behind (suc j) k n = ap (λ (i : ℕ). drop (suc j) (bytes_high_first i n)) (let e : suc j + k ≡ suc (j + k) = omega arith in e) ∙ high_behind j k n
 
-  pub lay_step : (now : List ℕ) (left rest : ℕ) → to + width ≤ length old → 0 < left → Laying now left rest
-      → Laying (set now (to + (left - 1)) (rest % 256)) (left - 1) (rest / 256)
-  lay_step now left rest h some i = (omega arith, length-set now _ _ ∙ i.1, lay_last now left rest some (omega arith) ∙ i.2)
+byte_behind : (k n : ℕ) → byte_at (suc k) n ≡ byte_at k (n / 256)
+byte_behind zero n = refl
+byte_behind (suc k) n = ap (λ (q : ℕ). q % 256) (ap (λ (m : ℕ). n / m) (pow-succ' 256 (suc k)) ∙ sym (div-div-eq-div-mul n 256 (256 ^ suc k)))
 
-  pub lay_end : (now : List ℕ) (left rest : ℕ) → left ≤ 0 → Laying now left rest → now ≡ put to (big_endian width n) old
-  unfolding big_endian
-  lay_end now zero rest h i = sym (put_nil to now) ∙ i.2
-  lay_end now (suc left) rest h i = absurd (omega arith)
+high_last : (k n : ℕ) → bytes_high_first (suc k) n ≡ bytes_high_first k (n / 256) ++ (n % 256 ∷ [])
+high_last zero n = refl
+high_last (suc k) n =
+    ap (λ (x : ℕ). x ∷ bytes_high_first (suc k) n) (byte_behind k n)
+    ∙ ap (λ (l : List ℕ). byte_at k (n / 256) ∷ l) (high_last k n)
 
--- ---- reading a number: i bytes from a place on make m
+high_big : (k n : ℕ) → bytes_high_first k n ≡ big_endian k n
+unfolding big_endian
+high_big zero n = refl
+high_big (suc k) n = high_last k n ∙ ap (λ (l : List ℕ). l ++ (n % 256 ∷ [])) (high_big k (n / 256))
 
-module _ (key : List ℕ) (from width : ℕ) where
+-- as many of the eight as there are places
+pub last_bytes : (k n : ℕ) → k ≤ 8 → take (8 - (8 - k)) (drop (8 - k) (to_be_bytes w64 n)) ≡ big_endian k n
+last_bytes k n h =
+    let e : 8 - k + k ≡ 8 = omega arith in
+    let behind : drop (8 - k) (to_be_bytes w64 n) ≡ big_endian k n =
+    sym (ap (λ (i : ℕ). drop (8 - k) (bytes_high_first i n)) e) ∙ high_behind (8 - k) k n ∙ high_big k n in
+    ap (take (8 - (8 - k))) behind ∙ take_all (8 - (8 - k)) (big_endian k n) (rw (length_big k n) (omega arith))
+
+-- ---- reading a number: the first i bytes make m
+
+module _ (bytes : List ℕ) where
   abbrev pub Gathered : ℕ → ℕ → Type 0
-  Gathered m i = (i ≤ width) × (m ≡ from_big_endian 0 (take i (drop from key))) × (m < 256 ^ i)
+  Gathered m i = (m ≡ from_big_endian 0 (take i bytes)) × (m < 256 ^ i)
 
   pub gather_none : Gathered 0 0
   unfolding from_big_endian
-  gather_none = (omega arith, refl, omega arith)
+  gather_none = (refl, omega arith)
 
-  module _ (m i x : ℕ) (g : Gathered m i) (h : i < width) (b : x < 256) where
+  module _ (m i x : ℕ) (g : Gathered m i) (b : x < 256) where
     next_below : m * 256 + x < 256 ^ suc i
-    next_below = rw (pow-suc 256 i) (omega (arith, g.2))
+    next_below = rw (pow-suc 256 i) (omega (arith, g.1))
 
     -- so far it fits a word
-    pub gather_room : width ≤ 8 → m * 256 + x < 2 ^ 64
-    gather_room l = lt_of_lt_of_le next_below (pow-le-pow_right (zero-lt-suc 255) (let k : suc i ≤ 8 = omega arith in k))
+    pub gather_room : i < 8 → m * 256 + x < 2 ^ 64
+    gather_room h = lt_of_lt_of_le next_below (pow-le-pow_right (zero-lt-suc 255) (let k : suc i ≤ 8 = omega arith in k))
 
-    pub gather_step : from + width ≤ length key → x ≡ get_or key (from + i) 0 → Gathered (m * 256 + x) (i + 1)
-    gather_step l q = rw (add-one i) (
-      omega arith,
-      rw (take-suc (drop from key) i 0 (rw length-drop (omega arith)), get_or-drop from key i 0, ← q, number_snoc 0 (take i (drop from key)) x, ← g.1),
+    pub gather_step : i < length bytes → x ≡ get_or bytes i 0 → Gathered (m * 256 + x) (i + 1)
+    gather_step h q = rw (add-one i) (
+      rw (take-suc bytes i 0 h, ← q, number_snoc 0 (take i bytes) x, ← g.0),
       next_below,
     )
-
-  pub gather_end : (m i : ℕ) → width ≤ i → Gathered m i → (m ≡ from_big_endian 0 (take width (drop from key))) × (m < 256 ^ width)
-  gather_end m i h g = let q : i ≡ width = omega arith in rw (← q) (g.1, g.2)

@@ -1,15 +1,17 @@
--- The passes over a shape's kinds: the bytes of a key counted, and the fields read one after the other into a blank record; and what reading then answers.
+-- The fields of a key read one after the other into a blank record; and what reading then answers.
 use mathlib.Core.Path.{◌≡◌, refl, sym, ◌∙◌, ap}
-use mathlib.Core.Bool.{Bool, true, false, not}
+use mathlib.Core.Bool.{Bool, true, false, not, cond}
 use mathlib.Core.List.{List, [], ◌∷◌, ◌++◌, append_assoc}
-use Prim.Native.Nat.{ℕ, zero, suc, ◌+◌, ◌-◌, ◌*◌, ◌≤◌, ◌<◌}
+use Prim.Native.Nat.{ℕ, zero, suc, ◌+◌, ◌-◌, ◌≤◌, ◌<◌}
 use native.Mathlib.Nat.{zero-add, add-zero}
 use native.Mathlib.Numerals.{add-one}
 use native.Mathlib.Omega.{arith}
 use borrow.Author.Tests.{eq-eqb, ne_eqb}
 use lib.Dec.{eqb}
-use lib.ListN.{length, take, drop, get_or, set, replicate, length-map, length-set, take-append-drop, drop_of_length-le, get_or-map}
-use lib.Seq.{take-suc, take_all, drop-cons, drop-drop, drop-set-lt, take-suc-set, get_or-take, length-take-le}
+use lib.ListN.{length, take, drop, get_or, set, replicate, length-map, length-set, length-drop, take-append-drop, drop_of_length-le, get_or-map}
+use lib.Seq.{drop-cons, drop-set-lt, take-suc-set, length-take-le}
+use Rattle.std.proofs.lemmas.List.{length-take}
+use Rattle.std.specs.Prelude.{Option, None, Some, sum_by}
 use Rattle.float.proofs.Tests.{clash}
 use Rattle.value.proofs.Outcomes.{refuse_passes, mapped_gives}
 use Rattle.value.specs.declared.Kind.{Kind}
@@ -25,13 +27,11 @@ use Rattle.record.specs.declared.Recorded.{Recorded}
 use Rattle.record.specs.declared.Shape.{Shape}
 use Rattle.record.specs.Record.{field_for, blank, bad_count, kinds_in, record_of, recorded_of}
 use Rattle.record.proofs.Twelve.{good_count}
-use Rattle.key.specs.declared.Weights.{Weights}
 use Rattle.bytewise.specs.Numbers.{from_big_endian}
 use Rattle.key.specs.Key.{bits_from, not_canonical, bytes_in, read_of}
-use Rattle.key.specs.Inner.{weights_for, bits_by_weights, foreign_by_weights, read_fields}
+use Rattle.key.specs.Inner.{read_fields, value_by_number}
+use Rattle.key.proofs.Summed.{sum_bytes}
 use Rattle.key.proofs.Passing.{read_none, read_more, read_by}
-use Rattle.value.proofs.Widths.{kind_sized}
-use Rattle.key.proofs.KeyNumbers.{form_bits, form_foreign}
 
 -- ---- a record that is filled from a place on
 
@@ -91,134 +91,115 @@ read_length at (k ∷ ks) key fs e =
     (read_fields (suc at) ks (drop (bytes_of k) key)) fs (length ks) (λ gs q. read_length (suc at) ks (drop (bytes_of k) key) gs q)
     (sym (read_more at k ks key) ∙ e)
 
--- ---- where the passes stand
+-- ---- one field, whose value is there or not
+
+field_refused : (t : Bool) (v : Value) {o : Option Value} (at : ℕ) (next : Outcome (List Field)) → o ≡ cond t None (Some v) → o ≡ None
+    → refuse_if t 12 at next ≡ refuses 12 at
+field_refused true v at next q h = refl
+field_refused false v at next q h = clash cc
+
+field_given : (t : Bool) (v : Value) {u : Value} {o : Option Value} (at : ℕ) (next : Outcome (List Field)) → o ≡ cond t None (Some v) → o ≡ Some u
+    → (refuse_if t 12 at next ≡ next) × (u ≡ v)
+field_given true v at next q h = clash cc
+field_given false v at next q h = (refl, cc)
+
+-- ---- where reading stands
 
 module _ (s : Shape) where
-  -- n bytes up to `at`
-  abbrev pub Summed : ℕ → ℕ → Type 0
-  Summed n at = (at ≤ s.count) × (n ≡ bytes_in (take at (kinds_in s))) × (n ≤ 8 * at)
-
-  -- read up to `at` into r, and the next from `from` on: reading the rest gives the whole
-  abbrev pub Filled : List ℕ → Record → ℕ → ℕ → Type 0
-  Filled key r from at =
-      (at ≤ s.count) × (from + bytes_in (drop at (kinds_in s)) ≡ length key) × (length r.fields ≡ 12)
-      × (finished_at at r (read_fields at (drop at (kinds_in s)) (drop from key)) ≡ recorded_of (read_of s key)) × (from ≤ 8 * at) × (s.count ≤ 12)
-
-module _ (s : Shape) (few : s.count ≤ 12) (twelve : length s.places ≡ 12) where
   abbrev ks : List Kind
   ks = kinds_in s
 
-  count_kinds : length ks ≡ s.count
-  count_kinds = length-map (take s.count s.places) _ ∙ length-take-le s.count s.places (omega arith)
+  -- read up to `at` into r, and `rest` is still to be read: reading it gives the whole
+  abbrev pub Filled : List ℕ → Record → List ℕ → ℕ → Type 0
+  Filled key r rest at =
+      (length rest ≡ bytes_in (drop at ks)) × (length r.fields ≡ 12)
+      × (finished_at at r (read_fields at (drop at ks) rest) ≡ recorded_of (read_of s key))
 
-  -- the kind at a place that counts
-  module _ (at : ℕ) (d : Place) (h : at < s.count) where
-    kind_here : get_or ks at d.kind ≡ (get_or s.places at d).kind
-    kind_here =
-        get_or-map (λ (p : Place). p.kind) (take s.count s.places) at d
-        ∙ ap (λ (p : Place). p.kind) (get_or-take s.count s.places at d h)
+  abbrev ps : List Place
+  ps = take s.count s.places
 
-    kinds_left : drop at ks ≡ (get_or s.places at d).kind ∷ drop (suc at) ks
-    kinds_left = drop-cons ks at d.kind (omega (arith, count_kinds)) ∙ ap (λ (k : Kind). k ∷ drop (suc at) ks) kind_here
-
-    kinds_passed : take (suc at) ks ≡ take at ks ++ ((get_or s.places at d).kind ∷ [])
-    kinds_passed = take-suc ks at d.kind (omega (arith, count_kinds)) ∙ ap (λ (k : Kind). take at ks ++ (k ∷ [])) kind_here
-
-  -- ---- the length
-
-  bytes_snoc : (l : List Kind) (k : Kind) → bytes_in (l ++ (k ∷ [])) ≡ bytes_in l + bytes_of k
-  unfolding bytes_in
-  bytes_snoc [] k = omega arith
-  bytes_snoc (j ∷ l) k = omega (arith, bytes_snoc l k)
-
-  pub sum_none : Summed s 0 0
-  unfolding bytes_in
-  sum_none = (omega arith, refl, omega arith)
-
-  pub sum_step : (n at : ℕ) (d : Place) → at < s.count → {w : ℕ}
-      → (w ≡ bytes_of (get_or s.places at d).kind) × (0 < w) × (w ≤ 8) → Summed s n at → Summed s (n + w) (at + 1)
-  sum_step n at d h q c =
-      let next : bytes_in (take (suc at) ks) ≡ bytes_in (take at ks) + bytes_of (get_or s.places at d).kind =
-      ap bytes_in (kinds_passed at d h) ∙ bytes_snoc (take at ks) (get_or s.places at d).kind in
-      rw (add-one at) (omega arith, omega (arith, next, q.0, c.1), omega (arith, q.2, c.2))
-
-  pub sum_end : (n at : ℕ) → s.count ≤ at → Summed s n at → n ≡ bytes_in ks
-  sum_end n at h c = c.1 ∙ ap bytes_in (take_all at ks (omega (arith, count_kinds)))
-
-  -- ---- the fields
-
-  module _ (key : List ℕ) (r : Record) (from at : ℕ) (filled : Filled s key r from at) where
-    module _ (d : Place) (h : at < s.count) {w : ℕ} (w-is : (w ≡ bytes_of (get_or s.places at d).kind) × (0 < w) × (w ≤ 8)) where
+  module _ (key : List ℕ) (r : Record) (rest : List ℕ) (at : ℕ) (filled : Filled key r rest at) where
+    module _ (d : Place) (h : at < length ps) {w : ℕ} (w-is : w ≡ bytes_of (get_or ps at d).kind) where
       abbrev k : Kind
-      k = (get_or s.places at d).kind
+      k = (get_or ps at d).kind
+
+      kinds_left : drop at ks ≡ k ∷ drop (suc at) ks
+      kinds_left =
+          drop-cons ks at d.kind (rw length-map h)
+          ∙ ap (λ (j : Kind). j ∷ drop (suc at) ks) (get_or-map (λ (p : Place). p.kind) ps at d)
 
       bytes_left : bytes_in (drop at ks) ≡ bytes_of k + bytes_in (drop (suc at) ks)
       unfolding bytes_in
-      bytes_left = rw (kinds_left at d h)
+      bytes_left = rw kinds_left
 
-      pub read_room : (w ≤ 8) × (from + w ≤ length key)
-      read_room = (w-is.2, omega (arith, bytes_left, filled.1, w-is.0))
+      pub read_room : w ≤ length rest
+      read_room = omega (arith, bytes_left, filled.0, w-is)
 
-      module _ {n : ℕ} (n-is : n ≡ from_big_endian 0 (take w (drop from key))) {l : Weights} (l-is : l ≡ weights_for (form_of k))
-          {b : ℕ} (b-is : b ≡ bits_by_weights l n) {t : Bool} (t-is : t ≡ foreign_by_weights l b) where
-        own_bits : b ≡ bits_from (form_of k) n
-        own_bits = b-is ∙ ap (λ (i : Weights). bits_by_weights i n) l-is ∙ form_bits (form_of k) n (kind_sized k)
+      module _ {front back : List ℕ} (front-is : front ≡ take w rest) (back-is : back ≡ drop w rest)
+          {o : Option Value} (o-is : o ≡ value_by_number k (from_big_endian 0 front)) where
+        abbrev n : ℕ
+        n = from_big_endian 0 front
 
-        own_test : t ≡ not_canonical (form_of k) n
-        own_test = t-is ∙ ap (foreign_by_weights l) b-is ∙ ap (λ (i : Weights). foreign_by_weights i (bits_by_weights i n)) l-is ∙ form_foreign (form_of k) n
+        abbrev test : Bool
+        test = not_canonical (form_of k) n
 
-        abbrev rest : Outcome (List Field)
-        rest = read_fields (suc at) (drop (suc at) ks) (drop (from + w) key)
+        abbrev made : Value
+        made = value_of k (bits_from (form_of k) n)
 
-        fields_left : read_fields at (drop at ks) (drop from key) ≡ refuse_if t 12 at (mapped (λ fs. field_for (value_of k b) ∷ fs) rest)
-        fields_left = ap (λ (l : List Kind). read_fields at l (drop from key)) (kinds_left at d h)
-            ∙ read_more at k (drop (suc at) ks) (drop from key)
-            ∙ rw (← w-is.0, ← n-is, ← own_test, ← own_bits, drop-drop w from key)
+        abbrev behind : Value → Outcome (List Field)
+        behind v = mapped (λ fs. field_for v ∷ fs) (read_fields (suc at) (drop (suc at) ks) back)
 
-        pub read_stop : t ≡ true → recorded_of (refuses 12 at) ≡ recorded_of (read_of s key)
-        read_stop f =
-            let stop : read_fields at (drop at ks) (drop from key) ≡ refuses 12 at = fields_left ∙ rw f in
-            sym (ap (finished_at at r) stop) ∙ filled.3
+        fields_left : read_fields at (drop at ks) rest ≡ refuse_if test 12 at (behind made)
+        fields_left =
+            ap (λ (l : List Kind). read_fields at l rest) kinds_left ∙ read_more at k (drop (suc at) ks) rest
+            ∙ rw (← w-is, ← front-is, ← back-is)
 
-        pub read_step : t ≡ false → {v : Value} → v ≡ value_of k b → Filled s key (with_field r at v) (from + w) (at + 1)
-        read_step f {v} e =
-            let more : read_fields at (drop at ks) (drop from key) ≡ mapped (λ fs. field_for (value_of k b) ∷ fs) rest = fields_left ∙ rw f in
-            rw (e, add-one at) (
-              omega arith,
-              omega (arith, bytes_left, filled.1, w-is.0),
-              length-set r.fields at (field_for (value_of k b)) ∙ filled.2,
-              finish_field r at (value_of k b) rest (omega (arith, filled.2)) ∙ sym (ap (finished_at at r) more) ∙ filled.3,
-              omega (arith, filled.4, w-is.2),
-              few,
+        pub read_stop : o ≡ None → recorded_of (refuses 12 at) ≡ recorded_of (read_of s key)
+        read_stop q =
+            sym (ap (finished_at at r) (fields_left ∙ field_refused test made at (behind made) o-is q)) ∙ filled.2
+
+        pub read_step : {v : Value} → o ≡ Some v → length s.places ≡ 12 → Filled key (with_field r at v) back (at + 1)
+        read_step {v} q twelve =
+            let given = field_given test made at (behind made) o-is q in
+            let more : read_fields at (drop at ks) rest ≡ behind v = fields_left ∙ given.0 ∙ ap behind (sym given.1) in
+            let inside : at < length r.fields = omega (arith, filled.1, length-take s.count s.places, twelve) in
+            rw (add-one at) (
+              ap length back-is ∙ length-drop w rest ∙ omega (arith, bytes_left, filled.0, w-is),
+              length-set r.fields at (field_for v) ∙ filled.1,
+              finish_field r at v (read_fields (suc at) (drop (suc at) ks) back) inside ∙ sym (ap (finished_at at r) more) ∙ filled.2,
             )
 
-    pub read_end : s.count ≤ at → recorded_of (gives r) ≡ recorded_of (read_of s key)
+    pub read_end : length ps ≤ at → recorded_of (gives r) ≡ recorded_of (read_of s key)
     read_end h =
-        let none : drop at ks ≡ [] = drop_of_length-le ks {i = at} (omega (arith, count_kinds)) in
-        finish_none r at ∙ ap (finished_at at r) (sym (read_none at (drop from key))) ∙ (rw none at filled.3)
+        let none : drop at ks ≡ [] = drop_of_length-le ks {i = at} (rw length-map h) in
+        finish_none r at ∙ ap (finished_at at r) (sym (read_none at rest)) ∙ (rw none at filled.2)
 
 -- ---- the whole
+
+count_kinds : (s : Shape) → s.count ≤ 12 → length s.places ≡ 12 → length (kinds_in s) ≡ s.count
+count_kinds s few twelve = length-map (take s.count s.places) _ ∙ length-take-le s.count s.places (omega arith)
 
 module _ (s : Shape) (key : List ℕ) {t : Bool} (count_is : t ≡ bad_count s.count) where
   pub read_bad_count : t ≡ true → recorded_of (refuses 11 0) ≡ recorded_of (read_of s key)
   unfolding read_of
   read_bad_count f = rw (← count_is, f)
 
-  module _ (count_good : t ≡ false) {n : ℕ} (n-is : n ≡ bytes_in (kinds_in s)) where
+  module _ (count_good : t ≡ false) {n : ℕ} (n-is : n ≡ sum_by (λ (p : Place). bytes_of p.kind) (take s.count s.places)) where
+    length_is : n ≡ bytes_in (kinds_in s)
+    length_is = n-is ∙ sum_bytes (λ (p : Place). p.kind) (take s.count s.places)
+
     pub read_bad_length : (length key ≡ n → ⊥) → recorded_of (refuses 9 0) ≡ recorded_of (read_of s key)
     unfolding read_of
-    read_bad_length h = rw (← count_is, count_good, ← n-is, ne_eqb (length key) n h)
+    read_bad_length h = rw (← count_is, count_good, ← length_is, ne_eqb (length key) n h)
 
-    pub read_start : s.count ≤ 12 → length s.places ≡ 12 → length key ≡ n → {r : Record} → r ≡ blank
-        → Filled s key (record { fields = r.fields; count = s.count }) 0 0
-    read_start few twelve h e = rw e (
-      omega arith,
-      omega (arith, n-is),
+    pub read_start : length s.places ≡ 12 → length key ≡ n → {r : Record} → r ≡ blank
+        → Filled s key (record { fields = r.fields; count = s.count }) key 0
+    read_start twelve h e = rw e (
+      h ∙ length_is,
       refl,
-      finish_blank s.count (read_fields 0 (kinds_in s) key) (λ fs q. read_length 0 (kinds_in s) key fs q ∙ count_kinds s few twelve)
-          ∙ sym (ap recorded_of (read_by s key) ∙ rw (← count_is, count_good, ← n-is, eq-eqb (length key) n h)),
-      omega arith,
-      few,
+      finish_blank s.count (read_fields 0 (kinds_in s) key)
+          (λ fs q. read_length 0 (kinds_in s) key fs q ∙ count_kinds s (good_count s.count (sym count_is ∙ count_good)) twelve)
+          ∙ sym (ap recorded_of (read_by s key) ∙ rw (← count_is, count_good, ← length_is, eq-eqb (length key) n h)),
     )
 
 -- what was read has as many fields as the shape has kinds

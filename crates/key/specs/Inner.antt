@@ -1,16 +1,17 @@
 -- Nothing in this file has to be believed: it says what private functions compute, and no public contract or theorem reaches it.
--- The bits of a value are made its key and back by the weight of the sign bit; bytes are laid into a buffer; the first NaN is found.
-use Rattle.std.specs.Prelude.{ℕ, ◌+◌, ◌-◌, ◌*◌, ◌%◌, ◌^◌, ◌≤◌, ◌<◌, ◌≡◌, Bool, false, ◌||◌, cond, List, ◌∷◌, ◌++◌, eqb, ltb, leb, length, take, drop}
+-- The bits of a value are made its key and back by the weight of the sign bit; bytes are laid into a buffer; a value is read back.
+use Rattle.std.specs.Prelude.{ℕ, ◌+◌, ◌-◌, ◌*◌, ◌%◌, ◌^◌, ◌≤◌, ◌<◌, Bool, false, ◌||◌, cond, List, ◌∷◌, ◌++◌, eqb, ltb, leb, length, take, drop}
+use Rattle.std.specs.Prelude.{Option, None, Some}
 use Rattle.float.specs.Format.{sign_in, inf_in}
 use Rattle.value.specs.Kinds.{Form, unsigned, signed, floating, form_of}
 use Rattle.value.specs.Outcome.{Outcome, gives, refuse_if, mapped}
 use Rattle.value.specs.Rules.{chain}
 use Rattle.value.specs.declared.Kind.{Kind}
+use Rattle.value.specs.declared.Value.{Value}
 use Rattle.value.specs.Meaning.{value_of}
 use Rattle.record.specs.declared.Field.{Field}
-use Rattle.record.specs.declared.Record.{Record}
-use Rattle.record.specs.Record.{field_for, fields_of}
-use Rattle.key.specs.Key.{float_key, pattern_from, bits_from, not_canonical, nan_rules, key_numbers, canonical_rules, fields_from}
+use Rattle.record.specs.Record.{field_for}
+use Rattle.key.specs.Key.{float_key, pattern_from, bits_from, not_canonical, key_numbers, canonical_rules, fields_from}
 use Rattle.key.specs.declared.Weights.{Weights}
 use Rattle.key.specs.declared.Weights.TheVariants as weights
 
@@ -55,9 +56,9 @@ foreign_by_weights (weights.Float half infinity) b = ltb infinity (abs_by_weight
 unfoldable pub put : ℕ → List ℕ → List ℕ → List ℕ
 put at k l = take at l ++ (k ++ drop (at + length k) l)
 
--- i is the index of the first NaN, or the count
-abbrev pub FirstNan : Record → ℕ → Type 0
-FirstNan r i = (n : ℕ) → chain (nan_rules 0 (fields_of r)) (gives n) ≡ refuse_if (ltb i r.count) 1 i (gives n)
+-- the value of a kind whose key is n, if there is one
+abbrev pub value_by_number : Kind → ℕ → Option Value
+value_by_number k n = cond (not_canonical (form_of k) n) None (Some (value_of k (bits_from (form_of k) n)))
 
 -- the fields of a key, or 12; `at` is the index of the first
 unfoldable pub read_fields : ℕ → List Kind → List ℕ → Outcome (List Field)

@@ -1,6 +1,5 @@
 -- The key of a record: written, and read back. RULES.md: Keys, Refusals.
-use Rattle.value.specs.declared.Refusal.{Refusal}
-use Rattle.std.specs.Prelude.{ℕ, suc, ◌+◌, ◌-◌, ◌*◌, ◌%◌, ◌^◌, Bool, false, not, ◌||◌, cond, List, [], ◌∷◌, ◌++◌, map, eqb, ltb, leb, length, take, Result, Err, Ok}
+use Rattle.std.specs.Prelude.{ℕ, suc, ◌+◌, ◌-◌, ◌*◌, ◌%◌, ◌^◌, Bool, false, not, ◌||◌, cond, List, [], ◌∷◌, ◌++◌, map, eqb, ltb, leb, length, take}
 use Rattle.std.specs.Prelude.{drop, ℤ, pos, negsuc}
 use Rattle.float.specs.Format.{sign_in, nan_in}
 use Rattle.float.specs.Number.{is_none}
@@ -8,7 +7,7 @@ use Rattle.value.specs.declared.Kind.{Kind}
 use Rattle.value.specs.declared.Value.{Value}
 use Rattle.value.specs.Kinds.{Form, unsigned, signed, floating, form_of, kind_of, bytes_of}
 use Rattle.value.specs.Meaning.{Content, natural, integer, real, content_of, exact_of, value_of}
-use Rattle.value.specs.Outcome.{Outcome, gives, refusal_of, lent_after}
+use Rattle.value.specs.Outcome.{Outcome, gives, lent_after}
 use Rattle.value.specs.Rules.{Rule, rule, chain, each_of}
 use Rattle.record.specs.declared.Field.{Field}
 use Rattle.record.specs.declared.Record.{Record}

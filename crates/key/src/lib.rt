@@ -1,6 +1,7 @@
 // Keys: byte strings that order as their records do (docs/KEYS.md, docs/RULES.md: Keys).
 #![tactic(auto)]
 
+mod lengths;
 mod numbers;
 mod reading;
 mod writing;

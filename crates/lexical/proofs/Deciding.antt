@@ -1,12 +1,14 @@
 -- The comparison and the choice, from the decision that they share.
 use Rattle.std.specs.Prelude.{Result, Err, Ok}
 use Prim.Native.Nat.{ℕ, ◌≤◌}
-use mathlib.Core.Path.{◌≡◌, sym, ◌∙◌, ap}
-use mathlib.Core.Bool.{Bool, true, false, ◌||◌}
+use mathlib.Core.Path.{◌≡◌, refl, sym, ◌∙◌, ap}
+use mathlib.Core.Bool.{Bool, true, false, not, ◌||◌}
 use native.Mathlib.Nat.{zero-add}
 use Rattle.float.specs.declared.Order.{Order}
+use Rattle.float.specs.declared.Order.TheVariants.{Less, Equal, Greater, Unordered}
+use Rattle.float.specs.Order.{is_greater, is_unordered}
 use Rattle.float.proofs.Tests.{neither}
-use Rattle.value.specs.Outcome.{Outcome, gives, refuses, refusal_of, and_then, outcome_of}
+use Rattle.value.specs.Outcome.{Outcome, gives, refusal_of, and_then, outcome_of}
 use Rattle.value.specs.Rules.{chain}
 use Rattle.value.proofs.Rules.{chain_then}
 use Rattle.value.specs.declared.Refusal.{Refusal}
@@ -27,22 +29,21 @@ module _ {B : Type 0} {d : Result Decision Refusal} where
   pub then_refusal : (next : Decision → Outcome B) {f : Refusal} → d ≡ Err f → refusal_of f ≡ and_then (outcome_of d) next
   then_refusal next q = sym (ap (λ (e : Result Decision Refusal). and_then (outcome_of e) next) q)
 
+-- an order that is neither Unordered nor Greater
+pub first_stays : (o : Order) → (o ≡ Unordered → ⊥) → (o ≡ Greater → ⊥) → not (is_greater o || is_unordered o) ≡ true
+first_stays Less u g = refl
+first_stays Equal u g = refl
+first_stays Greater u g = absurd (g refl)
+first_stays Unordered u g = absurd (u refl)
+
 -- ---- the decision by the tests of rules 11 and 7
 
 module _ (a b : Record) {bad : Bool} (u : bad ≡ (bad_count a.count || bad_count b.count)) where
-  pub decide_bad : bad ≡ true → refuses 11 0 ≡ decide_of a b
-  unfolding decide_of
-  decide_bad h = rw (← u, h)
-
   module _ (h : bad ≡ false) where
     pub good_counts : (a.count ≤ 12) × (b.count ≤ 12)
     good_counts =
         let p = neither (bad_count a.count) (bad_count b.count) (sym u ∙ h) in
         (good_count a.count p.0, good_count b.count p.1)
-
-    pub decide_differ : {differ : Bool} → differ ≡ shapes_differ (fields_of a) (fields_of b) → differ ≡ true → refuses 7 0 ≡ decide_of a b
-    unfolding decide_of
-    decide_differ v t = rw (← u, h, ← v, t)
 
     pub decide_given : {d : Decision} → shapes_differ (fields_of a) (fields_of b) ≡ false →
         d ≡ decision_from 0 (fields_of a) (fields_of b) → gives d ≡ decide_of a b

@@ -1,8 +1,7 @@
 -- Nothing in this file has to be believed: it says what private functions compute, and no public contract or theorem reaches it.
 -- How two records compare, together with the index of the field that decides: what the comparison and the choice share.
-use Rattle.value.specs.declared.Refusal.{Refusal}
-use Rattle.std.specs.Prelude.{ℕ, ◌+◌, List, Result, Err, Ok}
-use Rattle.value.specs.Outcome.{Outcome, gives, refusal_of}
+use Rattle.std.specs.Prelude.{ℕ, ◌+◌, List}
+use Rattle.value.specs.Outcome.{Outcome, gives}
 use Rattle.value.specs.Rules.{chain}
 use Rattle.cmp.specs.Inner.{chosen_by}
 use Rattle.record.specs.declared.Field.{Field}

@@ -11,24 +11,16 @@ use record::{Record, Recorded, refused};
 use value::Refusal;
 
 // The other one when the order is Greater, else the first.
-fn chosen_by(d: Result<Decision, Refusal>, one: Record, other: Record) -> Recorded
-    ensures { result ≡ recorded_of (and_then (outcome_of d) (chosen_from one other)) }
+// The refusal has an arm and is no `?`: what is handed back is a Recorded, and `recorded_of` owes the blank record in that arm.
+fn chosen_by(decision: Result<Decision, Refusal>, one: Record, other: Record) -> Recorded
+    ensures { result ≡ recorded_of (and_then (outcome_of decision) (chosen_from one other)) }
 {
-    match d {
-        Ok(x) => {
-            let o = x.order;
-            match o {
-                Order::Unordered => refused(8, x.at),
-                Order::Greater => Recorded {
-                    outcome: Ok(()),
-                    record: other,
-                },
-                _ => Recorded {
-                    outcome: Ok(()),
-                    record: one,
-                },
-            }
-        }
+    match decision {
+        Ok(d) => match d.order {
+            Order::Unordered => refused(8, d.at),
+            Order::Greater => Recorded::from(Ok(other)),
+            _ => Recorded::from(Ok(one)),
+        },
         Err(f) => refused(f.number, f.place),
     }
 }

@@ -23,17 +23,11 @@ fn order_at(a: Record, b: Record, at: usize) -> Order
     requires { (at < 12) × (kinds_differ (value_at a.fields at) (value_at b.fields at) ≡ false) }
     ensures { result ≡ value_order (value_at a.fields at) (value_at b.fields at) }
 {
-    let x = a.fields[at];
-    let y = b.fields[at];
-    let v = x.value;
-    let w = y.value;
-    match cmp::compare(v, w) {
-        Ok(o) => o,
-        Err(_) => Order::Unordered,
-    }
+    cmp::compare(a.fields[at].value, b.fields[at].value).unwrap_or(Order::Unordered)
 }
 
 // From a place on: the field there, and when it is Equal a call on the fields that are left behind it.
+// It calls itself and is no loop: a rule of the project names this form for the comparison of records.
 fn compare_from(a: Record, b: Record, at: usize, left: usize) -> Decision
     requires { (at + left ≤ 12) × (shapes_differ (take left (drop at a.fields)) (take left (drop at b.fields)) ≡ false) }
     ensures { result ≡ decision_from at (take left (drop at a.fields)) (take left (drop at b.fields)) }
@@ -44,30 +38,30 @@ fn compare_from(a: Record, b: Record, at: usize, left: usize) -> Decision
             at,
         };
     }
-    let o = order_at(a, b, at);
-    match o {
+    match order_at(a, b, at) {
         Order::Equal => compare_from(a, b, at + 1, left - 1),
-        _ => Decision { order: o, at },
+        order => Decision { order, at },
     }
 }
 
 // Rules 11 and 7, then the comparison.
+#[tactic(auto, unfolding(crate::specs::Inner::decide_of))]
 pub(crate) fn decide(a: Record, b: Record) -> Result<Decision, Refusal>
     ensures { outcome_of result ≡ decide_of a b }
 {
     if bad_counts(a.count, b.count) {
-        Err(Refusal {
+        return Err(Refusal {
             number: 11,
             place: 0,
-        })
-    } else if shapes_differ(a, b) {
-        Err(Refusal {
+        });
+    }
+    if shapes_differ(&a.fields[..a.count], &b.fields[..b.count]) {
+        return Err(Refusal {
             number: 7,
             place: 0,
-        })
-    } else {
-        Ok(compare_from(a, b, 0, a.count))
+        });
     }
+    Ok(compare_from(a, b, 0, a.count))
 }
 
 pub fn compare(a: Record, b: Record) -> Result<Order, Refusal>

@@ -1,10 +1,12 @@
 // What has to hold before two records are compared: good counts, and one shape. RULES.md: Records.
-ghost use Rattle.std.specs.Prelude.{◌≡◌, ◌||◌, ◌≤◌, ◌<◌};
-ghost use Rattle.value.specs.Kinds.{kind_of, kind_number};
-ghost use Rattle.record.specs.Record.{fields_of, value_at, bad_count};
+ghost use Rattle.std.specs.Prelude.{◌≡◌, ◌||◌};
+ghost use Rattle.std.specs.List.{list_any, zip};
+ghost use Rattle.cmp.specs.Compare.{kinds_differ};
+ghost use Rattle.record.specs.Record.{bad_count};
 ghost use Rattle.lexical.specs.Lexical.{shapes_differ};
 
-use record::{Record, bad_count};
+use record::{Field, bad_count};
+use value::kind_of;
 
 // Rule 11.
 pub(crate) fn bad_counts(n: usize, m: usize) -> bool
@@ -13,30 +15,21 @@ pub(crate) fn bad_counts(n: usize, m: usize) -> bool
     bad_count(n) || bad_count(m)
 }
 
-fn kind_number_at(r: Record, at: usize) -> u8
-    requires { at < 12 }
-    ensures { result ≡ kind_number (kind_of (value_at r.fields at)) }
+fn kinds_differ(x: &Field, y: &Field) -> bool
+    ensures { result ≡ kinds_differ x.now.value y.now.value }
 {
-    let field = r.fields[at];
-    let v = field.value;
-    value::kind_number(value::kind_of(v))
+    kind_of(x.value) != kind_of(y.value)
+}
+
+fn some_kind_differs(xs: &[Field], ys: &[Field]) -> bool
+    ensures { result ≡ list_any (λ p. kinds_differ p.0.value p.1.value) (zip xs.now ys.now) }
+{
+    xs.iter().zip(ys).any(|(x, y)| kinds_differ(x, y))
 }
 
 // Rule 7.
-pub(crate) fn shapes_differ(a: Record, b: Record) -> bool
-    requires { (a.count ≤ 12) × (b.count ≤ 12) }
-    ensures { result ≡ shapes_differ (fields_of a) (fields_of b) }
+pub(crate) fn shapes_differ(xs: &[Field], ys: &[Field]) -> bool
+    ensures { result ≡ shapes_differ xs.now ys.now }
 {
-    let n = a.count;
-    if n != b.count {
-        return true;
-    }
-    let mut at = 0;
-    while at < n {
-        if kind_number_at(a, at) != kind_number_at(b, at) {
-            return true;
-        }
-        at += 1;
-    }
-    false
+    xs.len() != ys.len() || some_kind_differs(xs, ys)
 }

@@ -1,7 +1,7 @@
 -- What a program can hold: a record of twelve places, each with a value in range, and a shape of twelve places; the count is a usize.
 -- An array owns each of its elements, and a field owns its value, so what owning a value tells is told of each place, and no more is asked.
 use Prim.Native.Nat.{ℕ, zero, suc, ◌^◌, ◌<◌}
-use mathlib.Core.Path.{◌≡◌, refl, ◌∙◌}
+use mathlib.Core.Path.{◌≡◌, refl}
 use mathlib.Core.Logic.{◌↔◌}
 use mathlib.Core.List.{List, [], ◌∷◌}
 use native.Mathlib.Omega.{arith}

@@ -12,10 +12,7 @@ use Rattle.value.specs.declared.Value.TheVariants.{U8}
 use Rattle.value.specs.Kinds.{kind_of}
 use Rattle.record.specs.declared.Field.{Field}
 use Rattle.record.specs.declared.Place.{Place}
-use Rattle.record.specs.declared.Record.{Record}
-use Rattle.record.specs.declared.Shape.{Shape}
-use Rattle.record.specs.Record.{field_for, fields_of, value_at, place_for, kinds_of, shape_for}
-use Rattle.record.proofs.Twelve.{Twelve}
+use Rattle.record.specs.Record.{field_for, value_at, place_for, kinds_of}
 
 abbrev pub places_from : ℕ → List Kind → List Place
 places_from at ks = map place_for ks ++ replicate (12 - at) (place_for kind.U8)
@@ -23,20 +20,14 @@ places_from at ks = map place_for ks ++ replicate (12 - at) (place_for kind.U8)
 places_so_far : (l : List Field) (at : ℕ) → at ≤ length l → length (map place_for (kinds_of (take at l))) ≡ at
 places_so_far l at h = simp length-map (length-take-le at l h)
 
-pub one_more : (r : Record) (at : ℕ) {k : Kind} → Twelve r → at < 12 → k ≡ kind_of (value_at r.fields at)
-    → set (places_from at (kinds_of (take at r.fields))) at (place_for k) ≡ places_from (at + 1) (kinds_of (take (at + 1) r.fields))
-one_more r at {k} t h q =
+pub one_more : (fs : List Field) (at : ℕ) {k : Kind} → length fs ≤ 12 → at < length fs → k ≡ kind_of (value_at fs at)
+    → set (places_from at (kinds_of (take at fs))) at (place_for k) ≡ places_from (at + 1) (kinds_of (take (at + 1) fs))
+one_more fs at {k} few h q =
     let e : 12 - at ≡ suc (12 - (at + 1)) = omega arith in
-    let so_far = map place_for (kinds_of (take at r.fields)) in
+    let so_far = map place_for (kinds_of (take at fs)) in
     let rest = replicate (12 - (at + 1)) (place_for kind.U8) in
     let put : set (so_far ++ place_for kind.U8 ∷ rest) at (place_for k) ≡ so_far ++ place_for k ∷ rest =
-    set_at so_far (place_for kind.U8) rest (place_for k) at (places_so_far r.fields at (omega arith)) in
-    let more : map place_for (kinds_of (take (at + 1) r.fields)) ≡ so_far ++ (place_for k ∷ []) =
-    rw (add-one at, take-suc r.fields at (field_for (U8 0)) (omega arith), map-append, map-append, q) in
+    set_at so_far (place_for kind.U8) rest (place_for k) at (places_so_far fs at (omega arith)) in
+    let more : map place_for (kinds_of (take (at + 1) fs)) ≡ so_far ++ (place_for k ∷ []) =
+    rw (add-one at, take-suc fs at (field_for (U8 0)) h, map-append, map-append, q) in
     rw (e, more) (put ∙ sym (append_snoc so_far (place_for k) rest))
-
-pub filled : (r : Record) (at : ℕ) (ps : List Place) → Twelve r → r.count ≤ 12 → at ≡ r.count → ps ≡ places_from at (kinds_of (take at r.fields))
-    → ◌≡◌ {A = Shape} (record { places = ps; count = r.count }) (shape_for (kinds_of (fields_of r)))
-filled r at ps t h e q =
-    let n : length (kinds_of (fields_of r)) ≡ r.count = simp length-map (length-take-le r.count r.fields (omega arith)) in
-    rw (q, n, e)

@@ -6,7 +6,7 @@ use Rattle.value.specs.declared.Kind.TheVariants as kind
 use Rattle.value.specs.declared.Value.{Value}
 use Rattle.value.specs.declared.Value.TheVariants.{U8}
 use Rattle.value.specs.Kinds.{kind_of}
-use Rattle.value.specs.Outcome.{Outcome, gives, refuses, refusal_of}
+use Rattle.value.specs.Outcome.{Outcome, gives, refuses}
 use Rattle.value.specs.Rules.{Rule, rule, chain}
 use Rattle.record.specs.declared.Field.{Field}
 use Rattle.record.specs.declared.Record.{Record}

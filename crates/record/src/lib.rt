@@ -15,6 +15,7 @@ pub struct Field {
     pub value: Value,
 }
 
+// Twelve places beside a count, and no Vec: a record is on no heap, and is copied whole.
 #[derive(Clone, Copy)]
 pub struct Record {
     pub fields: [Field; 12],
@@ -27,7 +28,7 @@ pub struct Place {
     pub kind: Kind,
 }
 
-// The kinds of a record's fields; places past the count are never looked at.
+// The kinds of a record's fields; places past the count are never looked at. On no heap, as a record is.
 #[derive(Clone, Copy)]
 pub struct Shape {
     pub places: [Place; 12],
@@ -35,6 +36,7 @@ pub struct Shape {
 }
 
 // A record beside the outcome; after a refusal it is blank: count 0, and u8 0 in every place.
+// Not a Result of a record: `recorded_of`, which the contracts cite, owes the blank record beside a refusal.
 #[derive(Clone, Copy)]
 pub struct Recorded {
     pub outcome: Result<(), Refusal>,
@@ -42,6 +44,7 @@ pub struct Recorded {
 }
 
 // A shape beside the outcome; after a refusal it is blank: count 0, and u8 in every place.
+// Not a Result of a shape: `shaped_of`, which the contract cites, owes the blank shape beside a refusal.
 #[derive(Clone, Copy)]
 pub struct Shaped {
     pub outcome: Result<(), Refusal>,

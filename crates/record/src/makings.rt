@@ -1,8 +1,8 @@
 // Making records, setting their places and reading them. RULES.md: Records.
-ghost use Rattle.std.specs.Prelude.{◌≡◌, ◌<◌, ltb};
-ghost use Rattle.value.specs.Outcome.{gives, refuses, outcome_of};
+ghost use Rattle.std.specs.Prelude.{◌≡◌, ltb};
+ghost use Rattle.value.specs.Outcome.{refuses, outcome_of};
 ghost use Rattle.record.specs.Record as spec;
-ghost use Rattle.record.specs.Record.{value_at, recorded_of, set_of, get_of, push_of};
+ghost use Rattle.record.specs.Record.{recorded_of, set_of, get_of, push_of};
 
 use crate::{Field, Record, Recorded};
 use value::{Refusal, Value};
@@ -10,21 +10,32 @@ use value::{Refusal, Value};
 pub fn blank() -> Record
     ensures { result ≡ spec.blank }
 {
-    let z = Field {
-        value: Value::U8(0),
-    };
     Record {
-        fields: [z; 12],
+        fields: [Field {
+            value: Value::U8(0),
+        }; 12],
         count: 0,
     }
 }
 
-pub(crate) fn done(r: Record) -> Recorded
-    ensures { result ≡ recorded_of (gives r) }
-{
-    Recorded {
-        outcome: Ok(()),
-        record: r,
+impl From<Result<Record, Refusal>> for Recorded {
+    ghost use Rattle.std.specs.Prelude.{◌≡◌};
+    ghost use Rattle.value.specs.Outcome.{outcome_of};
+    ghost use Rattle.record.specs.Record.{recorded_of};
+
+    ghost from_gives = { λ answer recorded. recorded ≡ recorded_of (outcome_of answer) };
+
+    fn from(answer: Result<Record, Refusal>) -> Recorded {
+        match answer {
+            Ok(record) => Recorded {
+                outcome: Ok(()),
+                record,
+            },
+            Err(refusal) => Recorded {
+                outcome: Err(refusal),
+                record: blank(),
+            },
+        }
     }
 }
 
@@ -32,10 +43,7 @@ pub(crate) fn done(r: Record) -> Recorded
 pub fn refused(number: u8, place: usize) -> Recorded
     ensures { result ≡ recorded_of (refuses number place) }
 {
-    Recorded {
-        outcome: Err(Refusal { number, place }),
-        record: blank(),
-    }
+    Recorded::from(Err(Refusal { number, place }))
 }
 
 // Whether an index is none of the twelve places.
@@ -45,6 +53,7 @@ fn is_outside(at: usize) -> bool
     11 < at
 }
 
+#[tactic(auto, unfolding(crate::specs::Record::set_of))]
 pub fn set(r: Record, at: usize, v: Value) -> Recorded
     ensures { result ≡ recorded_of (set_of r at v) }
 {
@@ -53,18 +62,10 @@ pub fn set(r: Record, at: usize, v: Value) -> Recorded
     }
     let mut changed = r;
     changed.fields[at] = Field { value: v };
-    done(changed)
+    Recorded::from(Ok(changed))
 }
 
-pub(crate) fn value_at(r: Record, at: usize) -> Value
-    requires { at < 12 }
-    ensures { result ≡ value_at r.fields at }
-{
-    let field = r.fields[at];
-    let v = field.value;
-    v
-}
-
+#[tactic(auto, unfolding(crate::specs::Record::get_of))]
 pub fn get(r: Record, at: usize) -> Result<Value, Refusal>
     ensures { outcome_of result ≡ get_of r at }
 {
@@ -74,11 +75,12 @@ pub fn get(r: Record, at: usize) -> Result<Value, Refusal>
             place: 0,
         })
     } else {
-        Ok(value_at(r, at))
+        Ok(r.fields[at].value)
     }
 }
 
 // One more field behind those that count.
+#[tactic(auto, unfolding(crate::specs::Record::push_of))]
 pub fn push(r: Record, v: Value) -> Recorded
     ensures { result ≡ recorded_of (push_of r v) }
 {
@@ -89,5 +91,5 @@ pub fn push(r: Record, v: Value) -> Recorded
     let mut changed = r;
     changed.fields[end] = Field { value: v };
     changed.count = end + 1;
-    done(changed)
+    Recorded::from(Ok(changed))
 }

@@ -1,10 +1,9 @@
 // Counts and shapes of records. RULES.md: Records.
-ghost use Rattle.std.specs.Prelude.{◌≡◌, ◌≤◌};
-ghost use Rattle.record.specs.Record.{fields_of, bad_count, kinds_of, blank_shape, shape_for, shaped_of, shape_of};
+ghost use Rattle.std.specs.Prelude.{◌≡◌, ◌≤◌, length};
+ghost use Rattle.record.specs.Record.{bad_count, kinds_of, blank_shape, shape_for, shaped_of, shape_of};
 
-use crate::makings::value_at;
-use crate::{Place, Record, Shape, Shaped};
-use value::{Kind, Refusal};
+use crate::{Field, Place, Record, Shape, Shaped};
+use value::{Kind, Refusal, kind_of};
 
 // Rule 11.
 pub fn bad_count(n: usize) -> bool
@@ -16,46 +15,57 @@ pub fn bad_count(n: usize) -> bool
 pub fn blank_shape() -> Shape
     ensures { result ≡ blank_shape }
 {
-    let p = Place { kind: Kind::U8 };
     Shape {
-        places: [p; 12],
+        places: [Place { kind: Kind::U8 }; 12],
         count: 0,
     }
 }
 
-// The kinds of the fields that count, and u8 in the places past them.
-fn shape_for(r: Record) -> Shape
-    requires { r.count ≤ 12 }
-    ensures { result ≡ shape_for (kinds_of (fields_of r)) }
-{
-    let count = r.count;
-    let mut s = blank_shape();
-    let mut at = 0;
-    while at < count {
-        s.places[at] = Place {
-            kind: value::kind_of(value_at(r, at)),
-        };
-        at += 1;
+impl From<Result<Shape, Refusal>> for Shaped {
+    ghost use Rattle.std.specs.Prelude.{◌≡◌};
+    ghost use Rattle.value.specs.Outcome.{outcome_of};
+    ghost use Rattle.record.specs.Record.{shaped_of};
+
+    ghost from_gives = { λ answer shaped. shaped ≡ shaped_of (outcome_of answer) };
+
+    fn from(answer: Result<Shape, Refusal>) -> Shaped {
+        match answer {
+            Ok(shape) => Shaped {
+                outcome: Ok(()),
+                shape,
+            },
+            Err(refusal) => Shaped {
+                outcome: Err(refusal),
+                shape: blank_shape(),
+            },
+        }
     }
-    s.count = count;
-    s
 }
 
+// The kinds of the fields, and u8 in the places past them.
+fn shape_for(fields: &[Field]) -> Shape
+    requires { length fields.now ≤ 12 }
+    ensures { result ≡ shape_for (kinds_of fields.now) }
+{
+    let mut shape = blank_shape();
+    for (at, field) in fields.iter().enumerate() {
+        shape.places[at] = Place {
+            kind: kind_of(field.value),
+        };
+    }
+    shape.count = fields.len();
+    shape
+}
+
+#[tactic(auto, unfolding(crate::specs::Record::shape_of), using(crate::proofs::Twelve::good_count))]
 pub fn shape_of(r: Record) -> Shaped
     ensures { result ≡ shaped_of (shape_of r) }
 {
     if bad_count(r.count) {
-        Shaped {
-            outcome: Err(Refusal {
-                number: 11,
-                place: 0,
-            }),
-            shape: blank_shape(),
-        }
-    } else {
-        Shaped {
-            outcome: Ok(()),
-            shape: shape_for(r),
-        }
+        return Shaped::from(Err(Refusal {
+            number: 11,
+            place: 0,
+        }));
     }
+    Shaped::from(Ok(shape_for(&r.fields[..r.count])))
 }

@@ -1,10 +1,6 @@
 -- What is left of the key, read into the record that is filled up to `at`, gives the whole.
-use Prim.Native.Nat.{◌-◌}
 use Rattle.key.proofs.ReadSteps.{Filled}
 use Rattle.key.proofs.reading.read.Given as goal
 
 abbrev pub invariant-loop-at : goal.invariant-loop-at
-invariant-loop-at l = Filled l.shape l.key l.made l.from l.at
-
-abbrev pub decreases-loop-at : goal.decreases-loop-at
-decreases-loop-at l = l.count - l.at
+invariant-loop-at l = Filled l.fn.shape l.key l.made l.rest l.at

@@ -1,13 +1,12 @@
--- The last byte first: what is left to lay down, laid into what stands there, is the whole.
-use Rattle.key.proofs.NumberBytes.{lay_step, lay_end}
+-- The last of the eight bytes of n.
+use mathlib.Core.Path.{◌∙◌, ap}
+use mathlib.Core.List.{List}
+use Prim.Native.Nat.{ℕ, ◌-◌}
+use lib.ListN.{length, take, drop}
+use Rattle.key.proofs.NumberBytes.{last_bytes}
 use Rattle.key.proofs.writing.write_number.Goals as goal
-
-pub loop-left-preserved : goal.loop-left-preserved
-loop-left-preserved c =
-    let a = c.args in
-    lay_step a.to a.width a.n a.buffer.now c.loop-left.buffer c.loop-left.left c.loop-left.rest c.requires c.loop-left-test.true c.loop-left.invariant
 
 pub returns : goal.returns
 returns c =
-    let a = c.args in
-    lay_end a.to a.width a.n a.buffer.now c.loop-left.buffer c.loop-left.left c.loop-left.rest c.loop-left-test.false c.loop-left.invariant
+    let k = length c.args.bytes.now in
+    c.copy_from_slice.ensures.after ∙ ap (λ (l : List ℕ). take (8 - (8 - k)) (drop (8 - k) l)) c.to_be_bytes.ensures ∙ last_bytes k c.args.n c.requires

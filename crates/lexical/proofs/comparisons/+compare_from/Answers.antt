@@ -8,8 +8,8 @@ use Rattle.lexical.proofs.comparisons.+compare_from.Goals as goal
 pub returns-then-left-eq0 : goal.returns-then-left-eq0
 returns-then-left-eq0 t c = decided_equal c.args.a c.args.b _ _ c.if-left-eq0.true
 
-pub order_at-o-requires : goal.order_at-o-requires
-order_at-o-requires t c =
+pub order_at-requires : goal.order_at-requires
+order_at-requires t c =
     (omega arith, kinds_here c.args.a c.args.b _ _ (search rules) (search rules) c.if-left-eq0.false c.requires.0 c.requires.1)
 
 pub compare_from-requires : goal.compare_from-requires
@@ -19,9 +19,9 @@ compare_from-requires t c =
 pub returns-in-Equal : goal.returns-in-Equal
 returns-in-Equal t c =
     c.compare_from.ensures
-    ∙ decided_behind c.args.a c.args.b _ _ (search rules) (search rules) c.if-left-eq0.false c.requires.0 (sym c.in-Equal.is ∙ c.order_at-o.ensures)
+    ∙ decided_behind c.args.a c.args.b _ _ (search rules) (search rules) c.if-left-eq0.false c.requires.0 (sym c.in-Equal.is ∙ c.order_at.ensures)
 
 pub returns-in_default : goal.returns-in_default
 returns-in_default t c =
     decided_here c.args.a c.args.b _ _ (search rules) (search rules) c.if-left-eq0.false c.requires.0 _
-    (not_equal _ (search rules)) c.order_at-o.ensures
+    (not_equal _ (search rules)) c.order_at.ensures

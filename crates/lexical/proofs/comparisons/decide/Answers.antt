@@ -8,7 +8,7 @@ use borrow.Author.Rules.{rules}
 use Rattle.record.specs.Record.{fields_of}
 use Rattle.lexical.specs.Lexical.{shapes_differ}
 use Rattle.lexical.specs.Inner.{decision_from}
-use Rattle.lexical.proofs.Deciding.{decide_bad, good_counts, decide_differ, decide_given}
+use Rattle.lexical.proofs.Deciding.{good_counts, decide_given}
 use Rattle.lexical.proofs.OneShape.{one_count}
 use Rattle.lexical.proofs.comparisons.decide.Goals as goal
 use Rattle.lexical.proofs.comparisons.decide.Goals.{Else-shapes_differ}
@@ -30,18 +30,10 @@ compare_from-requires c =
     let h = counts e in
     (omega arith, ap (λ (n : ℕ). shapes_differ (fields_of c.args.a) (take n c.args.b.fields)) (count e) ∙ alike e)
 
-pub returns-then-bad_counts : goal.returns-then-bad_counts
-returns-then-bad_counts c = decide_bad c.args.a c.args.b c.bad_counts.ensures c.if-bad_counts.true
-
-pub returns-then-shapes_differ : goal.returns-then-shapes_differ
-returns-then-shapes_differ c =
-    decide_differ c.args.a c.args.b c.bad_counts.ensures c.if-bad_counts.false
-    c.shapes_differ.ensures c.if-shapes_differ.true
-
-pub returns-else-shapes_differ : goal.returns-else-shapes_differ
-returns-else-shapes_differ c =
+pub returns : goal.returns
+returns c =
     let a = c.args.a in
     let b = c.args.b in
-    let e = (goal.at.returns-else-shapes_differ c).Else-shapes_differ in
+    let e = (goal.at.returns c).Else-shapes_differ in
     decide_given a b c.bad_counts.ensures c.if-bad_counts.false (alike e)
     (c.compare_from.ensures ∙ ap (λ (n : ℕ). decision_from 0 (fields_of a) (take n b.fields)) (count e))
