@@ -18,12 +18,6 @@ store (x ∷ xs) [] i v h k e = absurd (not-suc-le-zero k)
 store (x ∷ xs) (y ∷ ys) zero v h k e = ap (λ w. w ∷ ys) (sym e)
 store (x ∷ xs) (y ∷ ys) (suc i) v h k e = ap (λ l. x ∷ l) (store xs ys i v (le_of_suc-le-suc h) (le_of_suc-le-suc k) e)
 
-still : {B : Type 0} (r t : List B) (i : ℕ) (d : B) → i < length r → i < length t → get_or (written r t i) i d ≡ get_or t i d
-still [] t i d h k = absurd (not-suc-le-zero h)
-still (x ∷ xs) [] i d h k = absurd (not-suc-le-zero k)
-still (x ∷ xs) (y ∷ ys) zero d h k = refl
-still (x ∷ xs) (y ∷ ys) (suc i) d h k = still xs ys i d (le_of_suc-le-suc h) (le_of_suc-le-suc k)
-
 pub mapped_at : {A B : Type 0} (f : A → B) (s : List A) (i : ℕ) (d : A) (z : B) → i < length s → get_or (map f s) i z ≡ f (get_or s i d)
 mapped_at f [] i d z h = absurd (not-suc-le-zero h)
 mapped_at f (x ∷ xs) zero d z h = refl
@@ -48,7 +42,3 @@ module _ {A B : Type 0} (f : A → B) where
   write_end s t now i h n w =
       let k : length t ≤ i = omega arith in
       w.1 ∙ rw (take_all i (map f s) (rw (length-map s f) h), drop_of_length-le t k, append-nil)
-
--- in place, the sample at i is still the one that came in
-pub in_place : {A : Type 0} (f : A → A) (s now : List A) (i : ℕ) (d : A) → i < length s → Written f s s now i → get_or now i d ≡ get_or s i d
-in_place f s now i d h w = rw w.1 (still (map f s) s i d (rw (length-map s f) h) h)
