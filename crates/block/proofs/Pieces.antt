@@ -82,3 +82,8 @@ fill_numbers k f w n src old i j t p h {v} q now filled {m} many {new} e =
     (fill_piece k f (numbers_in w n src) old 0 i j (rw (length_numbers w n src) (omega arith)) now (v * i)
     (ap (λ (u : ℕ). u * i) q ∙ place_of i (bytes_of k)) filled
     (e ∙ ap (λ (l : List ℕ). sets now (v * i) (bytes_for k (map f l))) own))
+
+-- a row that was read of the slice from a sample on
+pub row_read : {A : Type 0} (f : ℕ → A) (w i n : ℕ) (src : List ℕ) {v m : ℕ} → v ≡ w → m ≡ n
+    → map f (numbers_in w m (take (length src - v * i) (drop (v * i) src))) ≡ map f (numbers_in w n (drop (w * i) src))
+row_read f w i n src {v} q p = rw (p, rest_is (v * i) src, q) refl
