@@ -1,5 +1,5 @@
 -- The second row holds what the samples are moved to.
-use Rattle.std.proofs.Common.{◌≡◌, ℕ, ◌*◌, map, drop, refl, ◌∙◌}
+use Rattle.std.proofs.Common.{◌≡◌, ◌*◌, map, drop, refl, ◌∙◌}
 use Rattle.sample.specs.Samples.{numbers_in}
 use Rattle.block.proofs.Rowing.{map_three}
 use Rattle.block.proofs.Pieces.{places, row_read}
