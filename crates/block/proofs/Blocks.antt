@@ -61,10 +61,10 @@ refused_here to v answered q = sample_refused to v (sym (ap outcome_of q) ∙ an
 pub given_here : (to : Kind) (v : Value) {r : Result Value Refusal} → outcome_of r ≡ convert_of v to → {w : Value} → r ≡ Ok w → bits_to to v ≡ gives (bits_of w)
 given_here to v answered q = sample_given to v (sym (ap outcome_of q) ∙ answered)
 
-pub bits_are_lem : (to : Kind) (v : Value) (r : Result Value Refusal) {n : ℕ} {P : Value → Type 0} → ((w : Value) → P w → n ≡ bits_of w)
+pub bits_are : (to : Kind) (v : Value) (r : Result Value Refusal) {n : ℕ} {P : Value → Type 0} → ((w : Value) → P w → n ≡ bits_of w)
     → MatchResult r P (λ f. n ≡ 0) → outcome_of r ≡ convert_of v to → n ≡ given_bits (bits_to to v)
-bits_are_lem to v (Ok w) h m answered = h w m ∙ sym (ap given_bits (given_here to v answered refl))
-bits_are_lem to v (Err f) h m answered = m ∙ sym (ap given_bits (refused_here to v answered refl))
+bits_are to v (Ok w) h m answered = h w m ∙ sym (ap given_bits (given_here to v answered refl))
+bits_are to v (Err f) h m answered = m ∙ sym (ap given_bits (refused_here to v answered refl))
 
 -- where no sample is refused the results are the conversions
 all_moved : (to : Kind) (at : ℕ) (vs : List Value) → row_answer (bits_to to) at vs ≡ gives done → row_results (bits_to to) vs ≡ map (moved_bits to) vs
@@ -190,10 +190,6 @@ samples_then from before src = refl
 module _ (from to : Kind) (before : ℕ) (answer : Outcome Success) (src old : List ℕ) where
   abbrev pub StepAnswers : Outcome Success → List ℕ → Type 0
   StepAnswers given left = (given ≡ step_answer from to before answer src (length old)) × (left ≡ step_exit from to before answer src old)
-
-  pub step_count : {r u : ℕ} → u ≡ bytes_of from → r ≡ (before + length src / u) % 2 ^ 64 → r ≡ step_samples from before src
-  unfolding step_samples
-  step_count p q = q ∙ rw p refl
 
   step_refused : {m p : ℕ} → step_answer from to before answer src (length old) ≡ refuses m p → StepAnswers (refuses m p) old
   unfolding step_exit

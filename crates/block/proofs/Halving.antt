@@ -1,5 +1,5 @@
 -- f16 to f32: no sample but a NaN is refused, so a block without NaN is answered as the pass that writes it.
-use Rattle.std.proofs.Common.{◌≡◌, ℕ, ◌+◌, ◌*◌, ◌/◌, ◌^◌, ◌<◌, ◌≤◌, false, List, map, length, get_or, sym, refl, ap, ◌∙◌, mod-eq_of_lt, arith}
+use Rattle.std.proofs.Common.{◌≡◌, ℕ, ◌/◌, ◌^◌, ◌<◌, ◌≤◌, false, List, map, length, get_or, sym, refl, ap, ◌∙◌, mod-eq_of_lt, arith}
 use lib.Seq.{sets}
 use Rattle.float.specs.Format.{f16, nan_in}
 use Rattle.float.specs.Order.{pattern_in}
@@ -9,23 +9,17 @@ use Rattle.value.specs.declared.Value.TheVariants.{F16}
 use Rattle.value.specs.Kinds.{bytes_of}
 use Rattle.value.specs.Meaning.{bits_of, exact_of, step_of, value_of}
 use Rattle.value.specs.Outcome.{gives, mapped, done}
-use Rattle.bytewise.proofs.LittleEndian.{two_here}
 use Rattle.convert.proofs.Exactly.{is_none_lem}
 use Rattle.convert.proofs.Widening.{widened}
 use Rattle.row.specs.Row.{any}
 use Rattle.sample.specs.Samples.{count_of, numbers_in}
 use Rattle.sample.specs.Refusals.{bits_to}
-use Rattle.sample.proofs.Samplings.{length_numbers, number_here}
+use Rattle.sample.proofs.Samplings.{length_numbers}
 use Rattle.block.specs.Output.{bytes_for}
 use Rattle.block.specs.Inner.{given_bits, half_bits}
 use Rattle.block.proofs.Blocks.{BlockAnswers}
 use Rattle.block.proofs.Rowing.{map_same, row_always, numbers_small, agree_by}
 use Rattle.block.proofs.Pairs.{mapped_same, fails_here}
-
--- the number of two bytes
-pub half_here : (src : List ℕ) (n i : ℕ) → i < n → 2 * n ≤ length src
-    → get_or src (2 * i + 1) 0 * 256 + get_or src (2 * i) 0 ≡ get_or (numbers_in 2 n src) i 0
-half_here src n i h room = sym (number_here 2 n src i 0 h ∙ two_here src i (omega arith))
 
 -- ---- one sample
 

@@ -1,7 +1,7 @@
 -- Numbers laid into bytes, low byte first.
 use Rattle.std.specs.Int.{bytes_low_first, byte_at, to_le_bytes}
 use borrow.Rule.Slice.PartMut.{put_mid}
-use Rattle.std.proofs.Common.{◌≡◌, ℕ, zero, suc, ◌+◌, ◌*◌, ◌/◌, ◌%◌, ◌^◌, ◌<◌, ◌≤◌, List, [], ◌∷◌, ◌++◌, length, take, drop, set, sym, refl, ap, ◌∙◌, ◌-◌, add-one, arith, w64}
+use Rattle.std.proofs.Common.{◌≡◌, ℕ, zero, suc, ◌+◌, ◌/◌, ◌%◌, ◌^◌, ◌≤◌, List, ◌∷◌, ◌++◌, length, take, drop, sym, refl, ap, ◌∙◌, ◌-◌, arith, w64}
 use Rattle.std.proofs.Common.{append_assoc, le_of_suc-le-suc, not-suc-le-zero}
 use native.Mathlib.Nat.{div-div-eq-div-mul, div-one, pow-suc}
 use lib.Seq.{sets, sets-eq, drop-drop}
@@ -36,18 +36,3 @@ stored l part at w n wide room q =
     let own : part ≡ little_endian w n = q ∙ low_bytes w 8 0 n wide ∙ ap (little_endian w) (div-one n) in
     let size : length part ≡ w = ap length own ∙ length_little w n in
     over_is l part at (at + w - at) w (omega arith) size room ∙ ap (sets l at) own
-
--- ---- numbers of two and four bytes
-
-pub lay_two : (now : List ℕ) (j b : ℕ) → set (set now j (b % 256)) (j + 1) (b / 256 % 256) ≡ sets now j (little_endian 2 b)
-unfolding little_endian
-lay_two now j b = rw (add-one j) refl
-
-pub lay_four : (now : List ℕ) (j b : ℕ)
-    → set (set (set (set now j (b % 256)) (j + 1) (b / 256 % 256)) (j + 2) (b / 256 / 256 % 256)) (j + 3)
-    (b / 256 / 256 / 256 % 256) ≡ sets now j (little_endian 4 b)
-unfolding little_endian
-lay_four now j b =
-    let two : j + 2 ≡ suc (suc j) = omega arith in
-    let three : j + 3 ≡ suc (suc (suc j)) = omega arith in
-    rw (add-one j, two, three) refl

@@ -1,7 +1,6 @@
 -- A block that is converted row after row: the samples of a row, the room for it, and how far the buffer is filled.
-use Rattle.std.proofs.Common.{◌≡◌, ℕ, ◌+◌, ◌-◌, ◌*◌, ◌%◌, ◌<◌, ◌≤◌, List, length, take, drop, replicate, sym, ap, ◌∙◌, le_trans, mul_comm}
-use Rattle.std.proofs.Common.{mul-le-mul_left, zero-add, mul-add, arith, length-drop, length-take-le, take_all}
-use native.Mathlib.Nat.{add-sub_cancel_left}
+use Rattle.std.proofs.Common.{◌≡◌, ℕ, ◌+◌, ◌-◌, ◌*◌, ◌<◌, ◌≤◌, List, length, take, drop, replicate, sym, ap, ◌∙◌, mul_comm}
+use Rattle.std.proofs.Common.{zero-add, arith, length-drop, length-take-le, take_all}
 use lib.Seq.{sets, drop-drop}
 use Rattle.value.specs.declared.Kind.{Kind}
 use Rattle.value.specs.Kinds.{bytes_of}
@@ -14,10 +13,6 @@ use Rattle.std.specs.Int.{from_le_bytes}
 use Rattle.std.proofs.Common.{zero, suc, [], ◌∷◌, refl, map, subst, get_or, drop-cons, mul-one, suc-mul, zero-mul, le_of_suc-le-suc, not-suc-le-zero, w16, w32}
 use Rattle.bytewise.specs.Numbers.{from_little_endian}
 use lib.ListN.{length-replicate}
-
--- the slice from i to i + n
-pub piece_is : {A : Type 0} (i n : ℕ) (l : List A) → take (i + n - i) (drop i l) ≡ take n (drop i l)
-piece_is i n l = ap (λ (m : ℕ). take m (drop i l)) (add-sub_cancel_left i n)
 
 pub place_of : (i w : ℕ) → w * i ≡ 0 + i * w
 place_of i w = mul_comm w i ∙ sym (zero-add (i * w))
@@ -82,3 +77,8 @@ fill_numbers k f w n src old i j t p h {v} q now filled {m} many {new} e =
     (fill_piece k f (numbers_in w n src) old 0 i j (rw (length_numbers w n src) (omega arith)) now (v * i)
     (ap (λ (u : ℕ). u * i) q ∙ place_of i (bytes_of k)) filled
     (e ∙ ap (λ (l : List ℕ). sets now (v * i) (bytes_for k (map f l))) own))
+
+-- a row that was read of the slice from a sample on
+pub row_read : {A : Type 0} (f : ℕ → A) (w i n : ℕ) (src : List ℕ) {v m : ℕ} → v ≡ w → m ≡ n
+    → map f (numbers_in w m (take (length src - v * i) (drop (v * i) src))) ≡ map f (numbers_in w n (drop (w * i) src))
+row_read f w i n src {v} q p = rw (p, rest_is (v * i) src, q) refl

@@ -1,6 +1,6 @@
 -- A block that is laid out as a row: the row's conversion of each sample is the block's, so what the row call answers is the block's answer.
 use Rattle.std.proofs.Common.{◌≡◌, ℕ, suc, ◌+◌, ◌*◌, ◌/◌, ◌^◌, ◌<◌, ◌≤◌, Bool, not, List, [], ◌∷◌, map, length, get_or, drop, sym, refl, ap, ◌∙◌}
-use Rattle.std.proofs.Common.{subst, arith, get_or-drop, eq-eqb}
+use Rattle.std.proofs.Common.{arith, get_or-drop, eq-eqb}
 use native.Mathlib.Nat.{suc_inj}
 use lib.ListN.{length-map, get_or-map}
 use lib.Seq.{sets}
@@ -132,13 +132,3 @@ agree_by from to conv enc made alike src bytes row q =
           ∙ alike (get_or ns i 0) (numbers_small (bytes_of from) n src bytes i l)
           ∙ ap (λ x. mapped enc (conv x)) (sym (ap (λ r. get_or r i (made 0)) q ∙ get_or-map made ns i 0)),
     )
-
--- the same block by other names of its kinds
-pub by_kinds : (from to : Kind) {f t : Kind} (src old : List ℕ) → from ≡ f → to ≡ t → {o : Outcome Success} {now : List ℕ}
-    → BlockAnswers f t src old o now → BlockAnswers from to src old o now
-by_kinds from to {f} {t} src old p q {o} {now} w =
-    subst (λ (k : Kind). BlockAnswers k to src old o now) (sym p) (subst (λ (k : Kind). BlockAnswers f k src old o now) (sym q) w)
-
-pub count_by_kinds : (from to : Kind) {f t : Kind} (src : List ℕ) (n room : ℕ) → from ≡ f → to ≡ t → n ≡ count_of from src
-    → n ≤ room / bytes_of to → (n ≡ count_of f src) × (n ≤ room / bytes_of t)
-count_by_kinds from to src n room p q count fits = (count ∙ ap (λ (k : Kind). count_of k src) p, subst (λ (k : Kind). n ≤ room / bytes_of k) q fits)

@@ -1,13 +1,12 @@
 -- The bytes that samples make.
 use Rattle.std.proofs.Common.{◌≡◌, ℕ, zero, suc, ◌+◌, ◌*◌, ◌/◌, ◌<◌, ◌≤◌, List, [], ◌∷◌, ◌++◌, map, length, get_or, take, drop, sym, refl, ap, ◌∙◌}
-use Rattle.std.proofs.Common.{append_assoc, append-nil, suc-mul, add_comm, le-div_iff_mul-le, zero-mul, add-one, arith, length-append, length-take-le}
+use Rattle.std.proofs.Common.{append_assoc, append-nil, suc-mul, add_comm, le-div_iff_mul-le, zero-mul, arith, length-append, length-take-le}
 use Rattle.std.proofs.Common.{take_all, drop-cons, take-add}
 use lib.ListN.{length-map}
 use lib.Seq.{sets, length-sets}
 use Rattle.value.specs.declared.Kind.{Kind}
 use Rattle.value.specs.Kinds.{bytes_of}
 use Rattle.value.proofs.Widths.{bytes_range}
-use Rattle.sample.proofs.Samplings.{sample_inside}
 use Rattle.bytewise.specs.Numbers.{little_endian}
 use Rattle.block.specs.Output.{bytes_for}
 use Rattle.bytewise.proofs.Laid.{sets_append}
@@ -15,13 +14,6 @@ use Rattle.bytewise.proofs.LittleEndian.{length_little}
 
 pub room_inside : (k : Kind) {n l : ℕ} → n ≤ l / bytes_of k → n * bytes_of k ≤ l
 room_inside k h = (le-div_iff_mul-le (bytes_range k).0).0 h
-
--- a place that steps by the sample's bytes
-pub place_inside : (i n w l : ℕ) {at u m : ℕ} → i < n → n * w ≤ l → at ≡ i * w → u ≡ w → m ≡ l → at + u ≤ m
-place_inside i n w l h k p q r = rw (p, q, r) (sample_inside i n w l h k)
-
-pub next_place : (i w : ℕ) {at u : ℕ} → at ≡ i * w → u ≡ w → at + u ≡ (i + 1) * w
-next_place i w p q = rw (p, q, add-one i, suc-mul i w) refl
 
 -- ---- bytes
 
@@ -103,17 +95,3 @@ module _ {A : Type 0} (k : Kind) (f : A → ℕ) (s : List A) (old : List ℕ) (
 
   pub fill_end : (now : List ℕ) (i : ℕ) → length s ≤ i → Filled now i → now ≡ sets old from (bytes_for k (map f s))
   fill_end now i h g = g.1 ∙ ap (λ (l : List ℕ). sets old from (bytes_for k l)) (take_all i (map f s) (rw (length-map s f) h))
-
-  -- two pieces that are all of it
-  pub fill_two : (i j : ℕ) → i + j ≡ length s → {a b : List A} → a ≡ take i s → b ≡ take j (drop i s) → (place : ℕ) → place ≡ from + i * bytes_of k
-      → {mid new : List ℕ} → mid ≡ sets old from (bytes_for k (map f a)) → new ≡ sets mid place (bytes_for k (map f b))
-      → new ≡ sets old from (bytes_for k (map f s))
-  fill_two i j whole {a} p q place at {mid} {new} m e =
-      let begun : Filled mid i = (
-        ap length m
-            ∙ length-sets old from (bytes_for k (map f a)),
-        m
-            ∙ ap (λ (l : List A). sets old from (bytes_for k (map f l))) p
-            ∙ ap (λ (l : List ℕ). sets old from (bytes_for k l)) (map_take f i s),
-      ) in
-      fill_end new (i + j) (omega arith) (fill_piece i j (omega arith) mid place at begun (e ∙ ap (λ (l : List A). sets mid place (bytes_for k (map f l))) q))

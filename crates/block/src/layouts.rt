@@ -14,7 +14,7 @@ ghost use Rattle.block.specs.Inner.{plain_bits};
 use crate::bytes::store;
 
 // A sample that a row has a place for. Its bits are asked only where it is no NaN.
-pub(crate) trait Sample: Copy + Drop {
+pub(crate) trait Sample: Copy + Drop + Default {
     const WIDTH: usize;
 
     ghost WIDTH: { ℕ };

@@ -1,8 +1,9 @@
 // Blocks of the pairs that convert as rows: the samples are laid out as a row, the row call decides, and what it gave is laid into bytes.
 // Two pairs refuse no sample: their blocks are converted by rows of 16 places, which the compiler keeps in registers, each laid down at once. The
 // others have one row for the whole block, so that a refusal leaves the buffer alone. RULES.md: Migration, Rows.
-ghost use Rattle.std.specs.Prelude.{◌≡◌, ℕ, ◌+◌, ◌*◌, ◌/◌, ◌≤◌, false, map, length, drop};
+ghost use Rattle.std.specs.Prelude.{◌≡◌, ℕ, ◌+◌, ◌*◌, ◌/◌, ◌^◌, ◌<◌, ◌≤◌, false, map, length, drop};
 ghost use Rattle.std.proofs.lemmas.List.Edits.{sets};
+ghost use Rattle.std.specs.Mem.{type_size};
 ghost use Rattle.row.specs.Row.{any, rowed_outcome};
 ghost use Rattle.row.specs.Inner.{as_f32};
 ghost use Rattle.value.specs.Kinds.{bytes_of};
@@ -57,29 +58,33 @@ impl Pair for Float {
     }
 }
 
-// As many samples as the two rows have places, from a sample on.
-fn one_row<P: Pair>(src: &[u8], i: usize, from: &mut [P::From], to: &mut [P::To], dst: &mut [u8])
-    requires { (P.From.WIDTH * i + P.From.WIDTH * length from.old ≤ length src.now) × (length from.old ≡ length to.old)
-        × (P.To.WIDTH * i + P.To.WIDTH * length from.old ≤ length dst.old) }
+// A row of at most 16 samples, from a sample on.
+fn one_row<P: Pair>(src: &[u8], i: usize, many: usize, dst: &mut [u8])
+    requires sizes { (16 * type_size P.From.row < 2 ^ 63) × (16 * type_size P.To.row < 2 ^ 63) }
+    requires row { (many ≤ 16) × (P.From.WIDTH * i + P.From.WIDTH * many ≤ length src.now) × (P.To.WIDTH * i + P.To.WIDTH * many ≤ length dst.old) }
     ensures { dst.new ≡ sets dst.old (P.To.WIDTH * i)
-        (bytes_for P.To.kind (map (λ b. P.To.bits (P.moved (P.From.of_bits b))) (numbers_in P.From.WIDTH (length from.old) (drop (P.From.WIDTH * i) src.now)))) }
+        (bytes_for P.To.kind (map (λ b. P.To.bits (P.moved (P.From.of_bits b))) (numbers_in P.From.WIDTH many (drop (P.From.WIDTH * i) src.now)))) }
 {
+    let mut places = [P::From::default(); 16];
+    let from = &mut places[..many];
     load(&src[P::From::WIDTH * i..], from);
+    let mut room = [P::To::default(); 16];
+    let to = &mut room[..many];
     P::convert(from, to);
     store_row(to, dst, P::To::WIDTH * i);
 }
 
 // Rows of 16 samples, one after the other, and the samples behind them.
-fn by_rows<P: Pair>(src: &[u8], n: usize, from: &mut [P::From], to: &mut [P::To], dst: &mut [u8])
-    requires { (length from.old ≡ 16) × (length to.old ≡ 16) × (P.From.WIDTH * n ≤ length src.now) × (P.To.WIDTH * n ≤ length dst.old) }
+fn by_rows<P: Pair>(src: &[u8], n: usize, dst: &mut [u8])
+    requires sizes { (16 * type_size P.From.row < 2 ^ 63) × (16 * type_size P.To.row < 2 ^ 63) }
+    requires room { (P.From.WIDTH * n ≤ length src.now) × (P.To.WIDTH * n ≤ length dst.old) }
     ensures { dst.new ≡ sets dst.old 0 (bytes_for P.To.kind (map (λ b. P.To.bits (P.moved (P.From.of_bits b))) (numbers_in P.From.WIDTH n src.now))) }
 {
     let rows = n / 16;
     for r in 0..rows {
-        one_row::<P>(src, 16 * r, from, to, dst);
+        one_row::<P>(src, 16 * r, 16, dst);
     }
-    let rest = n % 16;
-    one_row::<P>(src, 16 * rows, &mut from[..rest], &mut to[..rest], dst);
+    one_row::<P>(src, 16 * rows, n % 16, dst);
 }
 
 pub(crate) fn widened(src: &[u8], dst: &mut [u8]) -> Result<(), Refusal>
@@ -87,7 +92,7 @@ pub(crate) fn widened(src: &[u8], dst: &mut [u8]) -> Result<(), Refusal>
     ensures answer { rowed_outcome result ≡ block_answer Kind.U8 Kind.U16 src.now }
     ensures exit { dst.new ≡ block_exit Kind.U8 Kind.U16 src.now dst.old }
 {
-    by_rows::<Widen>(src, src.len(), &mut [0; 16], &mut [0; 16], dst);
+    by_rows::<Widen>(src, src.len(), dst);
     Ok(())
 }
 
@@ -96,7 +101,7 @@ pub(crate) fn floated(src: &[u8], n: usize, dst: &mut [u8]) -> Result<(), Refusa
     ensures answer { rowed_outcome result ≡ block_answer Kind.U16 Kind.F32 src.now }
     ensures exit { dst.new ≡ block_exit Kind.U16 Kind.F32 src.now dst.old }
 {
-    by_rows::<Float>(src, n, &mut [0; 16], &mut [0.0; 16], dst);
+    by_rows::<Float>(src, n, dst);
     Ok(())
 }
 

@@ -61,9 +61,6 @@ module _ {A : Type 0} (test : A → Bool) where
 -- ---- the index of the first place that differs
 
 module _ (before : ℕ) (ps : List Pair) where
-  pub index_found : {i : ℕ} → i ≡ first is_different ps → i < length ps → Some (before + i) ≡ first_in before ps
-  index_found {i} q h = rw (← q, lt-ltb i (length ps) h)
-
   pub none_found : {i : ℕ} → i ≡ first is_different ps → length ps ≤ i → None ≡ first_in before ps
   none_found {i} q h = rw (← q, le-ltb i (length ps) h)
 

@@ -60,7 +60,3 @@ pub widest_joined : (ps qs : List Pair) → widest_of (ps ++ qs) ≡ max (widest
 unfolding widest_of
 widest_joined [] qs = omega arith
 widest_joined (p ∷ ps) qs = let h = widest_joined ps qs in omega (arith, h)
-
-pub widest_last : (ps : List Pair) (p : Pair) → widest_of (ps ++ (p ∷ [])) ≡ max (widest_of ps) (distance p)
-unfolding widest_of
-widest_last ps p = widest_joined ps (p ∷ []) ∙ omega arith

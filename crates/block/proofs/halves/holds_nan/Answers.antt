@@ -1,5 +1,5 @@
 -- Up to i, the flag is whether a sample is a NaN.
-use Rattle.std.proofs.Common.{sym, ◌∙◌, arith}
+use Rattle.std.proofs.Common.{◌∙◌, arith}
 use Rattle.float.specs.Format.{f16, nan_in}
 use Rattle.row.proofs.Scan.{none_yet, any_step, any_end}
 use Rattle.sample.specs.Samples.{numbers_in}

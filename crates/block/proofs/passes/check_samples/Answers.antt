@@ -1,6 +1,5 @@
 -- Up to i no sample is refused.
 use Rattle.std.proofs.Common.{◌≡◌, ◌<◌, length, sym, ap, ◌∙◌, arith}
-use Rattle.value.specs.declared.Value.{Value}
 use Rattle.value.specs.Meaning.{value_of}
 use Rattle.value.specs.Outcome.{refusal_of}
 use Rattle.row.proofs.Scan.{reach_step, reach_stop, reach_end, reach_start}

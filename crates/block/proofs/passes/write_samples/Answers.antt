@@ -1,5 +1,5 @@
 -- The first conversions are laid down.
-use Rattle.std.proofs.Common.{◌≡◌, ◌+◌, ◌*◌, ◌<◌, length, sym, ap, ◌∙◌, zero-add, arith}
+use Rattle.std.proofs.Common.{◌≡◌, ◌+◌, ◌*◌, ◌<◌, length, sym, zero-add, arith}
 use Rattle.value.specs.Meaning.{value_of}
 use Rattle.value.specs.Kinds.{bytes_of}
 use Rattle.sample.specs.Samples.{count_of, samples_of}
