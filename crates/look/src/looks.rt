@@ -10,7 +10,6 @@ ghost use Rattle.look.specs.Report.{left_noted, look_of};
 use crate::Seen;
 use cmp::{gt, lt, ne};
 use convert::convert;
-use float::{is_infinite_f16, is_infinite_f32, is_infinite_f64};
 use sample::{count, sample_at};
 use value::{Kind, Refusal, Value, bits_f32, bits_f64, bytes_of};
 
@@ -24,9 +23,9 @@ fn is_infinite(v: Value) -> bool
     ensures { result ≡ infinite v }
 {
     match v {
-        Value::F32(x, word) => is_infinite_f32(bits_f32(x, word)),
-        Value::F64(x, word) => is_infinite_f64(bits_f64(x, word)),
-        Value::F16(b) => is_infinite_f16(b),
+        Value::F32(x, word) => float::is_infinite(bits_f32(x, word)),
+        Value::F64(x, word) => float::is_infinite(bits_f64(x, word)),
+        Value::F16(b) => float::is_infinite(b),
         _ => false,
     }
 }
