@@ -86,16 +86,18 @@ def is_archive(source):
 
 
 def functions(source):
-    """Those of a file, in order; a method has its type before its name."""
-    found, owner = [], ""
+    """Those of a file, in order; a method has its type before its name. One of a trait is public where it has a clause of its own."""
+    found, owner, of_trait = [], "", False
     lines = source.read_text().splitlines()
     for at, text in enumerate(lines):
-        if made := re.match(r"impl(?:<[^>]*>)? (\w+)", text):
-            owner = f"{made[1]}::"
+        if made := re.match(r"impl(?:<[^>]*>)? (?:\w+(?:<.*>)? (for) )?(\w+)", text):
+            owner, of_trait = f"{made[2]}::", bool(made[1])
         elif text.startswith("}"):
             owner = ""
         elif head := HEAD.match(text):
             found.append(Function(source, at + 1, owner, head, "\n".join(lines[at:])))
+            if owner and of_trait and found[-1].clauses:
+                found[-1].is_public = True
     return found
 
 

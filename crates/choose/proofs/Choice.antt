@@ -111,12 +111,17 @@ module _ (v lower upper : Value) where
       clamp_never f h = absurd (true≢false (sym (refused_kinds lower upper f (refused_test is_less_or_equal (compare_of lower upper) f h)).0
           ∙ same_kinds v lower upper (given_kinds v lower l).0 (given_kinds v upper u).0))
 
+      pub clamp_ordered : {bounds : Order} {r : Outcome Value} → gives bounds ≡ compare_of lower upper
+          → r ≡ clamped_by bounds low high v lower upper → r ≡ clamp_of v lower upper
+      unfolding clamp_of clamped_by
+      clamp_ordered w h =
+          let p = given_kinds v lower l in
+          let q = given_kinds v upper u in
+          simp (p.0, q.0) (h ∙ cc (p.1, q.1, (given_kinds lower upper w).1))
+
       -- whether the bounds are in order is a test of the order that they have
       pub clamp_clamped : {t : Bool} {r : Outcome Value} → gives t ≡ le_of lower upper
           → ((bounds : Order) → is_less_or_equal bounds ≡ t → r ≡ clamped_by bounds low high v lower upper) → r ≡ clamp_of v lower upper
-      unfolding clamp_of clamped_by
       clamp_clamped w h =
-          let p = given_kinds v lower l in
-          let q = given_kinds v upper u in
           let g = mapped_gives is_less_or_equal (compare_of lower upper) (sym w) in
-          simp (p.0, q.0) (h g.0 g.2 ∙ cc (p.1, q.1, (given_kinds lower upper (sym g.1)).1))
+          clamp_ordered (sym g.1) (h g.0 g.2)

@@ -10,17 +10,17 @@ use Rattle.cmp.specs.Compare.{compare_of}
 use Rattle.cmp.specs.Inner.{chosen_by}
 use Rattle.choose.specs.Choose.{min_of, max_of, clamp_of}
 use Rattle.choose.specs.Inner.{clamped_by}
-use Rattle.choose.proofs.Choice.{min_chosen, max_chosen, clamp_clamped}
+use Rattle.choose.proofs.Choice.{min_chosen, max_chosen, clamp_ordered}
 use Rattle.cmp.proofs.Orders.{turned_order}
 
 -- ---- by the order of the first and the second: min_by and max_by over the fixed comparison
 
 module _ (a b : Value) where
   min_at : (o : Order) → compare_of a b ≡ gives o → min_of a b ≡ chosen_by 0 a b o
-  min_at o h = sym (min_chosen a b) ∙ ap (λ x. and_then x (chosen_by 0 a b)) h
+  min_at o h = sym (min_chosen a b (sym h))
 
   max_at : (o : Order) → compare_of a b ≡ gives o → max_of a b ≡ chosen_by 0 b a o
-  max_at o h = sym (max_chosen a b) ∙ ap (λ x. and_then x (chosen_by 0 b a)) h
+  max_at o h = sym (max_chosen a b (sym h))
 
   pub min_by_greater : compare_of a b ≡ gives Greater → min_of a b ≡ gives b
   unfolding chosen_by
@@ -81,7 +81,7 @@ module _ (a b : Value) where
 module _ (v lower upper : Value) {bounds low high : Order} (w : compare_of lower upper ≡ gives bounds)
     (l : compare_of v lower ≡ gives low) (u : compare_of v upper ≡ gives high) where
   clamp_at : clamp_of v lower upper ≡ clamped_by bounds low high v lower upper
-  clamp_at = sym (clamp_clamped v lower upper (sym l) (sym u) (sym w) refl)
+  clamp_at = sym (clamp_ordered v lower upper (sym l) (sym u) (sym w) refl)
 
   pub clamp_bounds : is_less_or_equal bounds ≡ false → clamp_of v lower upper ≡ refuses 6 0
   unfolding clamped_by
