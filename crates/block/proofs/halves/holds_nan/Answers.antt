@@ -11,12 +11,14 @@ loop-i-init c = none_yet (nan_in f16) (numbers_in 2 (length c.args.src.now / 2) 
 
 pub loop-i-preserved : goal.loop-i-preserved
 loop-i-preserved c =
-    let a = c.args in
-    let here = number_here 2 (length a.src.now / 2) a.src.now c.loop-i.i 0 c.loop-i-test.true in
+    let src = c.args.src.now in
+    let n = length src / 2 in
+    let here = number_here 2 n src c.loop-i.i 0 c.loop-i-test.true in
     cc (c.loop-i.invariant, c.is_nan_f16-found.ensures, c.at.ensures, here)
-    ∙ any_step (nan_in f16) (numbers_in 2 (length a.src.now / 2) a.src.now) c.loop-i.i 0 (omega (arith, length_numbers 2 (length a.src.now / 2) a.src.now, c.loop-i-test.true))
+    ∙ any_step (nan_in f16) (numbers_in 2 n src) c.loop-i.i 0 (omega (arith, length_numbers 2 n src, c.loop-i-test.true))
 
 pub returns : goal.returns
 returns c =
-    let a = c.args in
-    c.loop-i.invariant ∙ any_end (nan_in f16) (numbers_in 2 (length a.src.now / 2) a.src.now) c.loop-i.i (omega (arith, length_numbers 2 (length a.src.now / 2) a.src.now, c.loop-i-test.false))
+    let src = c.args.src.now in
+    let n = length src / 2 in
+    c.loop-i.invariant ∙ any_end (nan_in f16) (numbers_in 2 n src) c.loop-i.i (omega (arith, length_numbers 2 n src, c.loop-i-test.false))
