@@ -1,6 +1,6 @@
 -- What one sample, a block and a step answer and leave, by what the passes found.
-use Rattle.std.proofs.Common.{◌≡◌, ℕ, suc, ◌+◌, ◌*◌, ◌/◌, ◌%◌, ◌^◌, ◌<◌, ◌≤◌, Bool, true, false, List, [], ◌∷◌, ◌++◌, map, length, get_or, drop, sym, refl, ap, ◌∙◌}
-use Rattle.std.proofs.Common.{subst, true≢false, zero-add, arith, le-ltb, lt-ltb, eq-eqb, ne_eqb}
+use Rattle.std.proofs.Common.{◌≡◌, ℕ, suc, ◌+◌, ◌*◌, ◌/◌, ◌%◌, ◌^◌, ◌<◌, ◌≤◌, Bool, true, false, List, [], ◌∷◌, ◌++◌, map, length, get_or, drop, sym}
+use Rattle.std.proofs.Common.{refl, ap, ◌∙◌, subst, true≢false, zero-add, arith, le-ltb, lt-ltb, eq-eqb, ne_eqb}
 use lib.ListN.{length-map}
 use lib.Seq.{sets, sets-eq}
 use Rattle.std.specs.Prelude.{Result, Ok, Err, MatchResult, IsErrAnd}
@@ -55,10 +55,12 @@ refused_number (gives b) h = absurd (true≢false (sym h))
 refused_number (refuses m p) h = (p, refl)
 
 -- of a sample that was converted
-pub refused_here : (to : Kind) (v : Value) {r : Result Value Refusal} → outcome_of r ≡ convert_of v to → {f : Refusal} → r ≡ Err f → bits_to to v ≡ refusal_of f
+pub refused_here : (to : Kind) (v : Value) {r : Result Value Refusal} → outcome_of r ≡ convert_of v to → {f : Refusal} → r ≡ Err f
+    → bits_to to v ≡ refusal_of f
 refused_here to v answered q = sample_refused to v (sym (ap outcome_of q) ∙ answered)
 
-pub given_here : (to : Kind) (v : Value) {r : Result Value Refusal} → outcome_of r ≡ convert_of v to → {w : Value} → r ≡ Ok w → bits_to to v ≡ gives (bits_of w)
+pub given_here : (to : Kind) (v : Value) {r : Result Value Refusal} → outcome_of r ≡ convert_of v to → {w : Value} → r ≡ Ok w
+    → bits_to to v ≡ gives (bits_of w)
 given_here to v answered q = sample_given to v (sym (ap outcome_of q) ∙ answered)
 
 pub bits_are : (to : Kind) (v : Value) (r : Result Value Refusal) {n : ℕ} {P : Value → Type 0} → ((w : Value) → P w → n ≡ bits_of w)

@@ -11,14 +11,14 @@ ghost use Rattle.block.specs.Inner.{given_bits, moved_bits};
 
 use crate::bytes::store;
 use convert::convert;
-use sample::sample_at;
+use sample::{count, sample_at};
 use value::{Kind, Refusal, Value, bits_of, bytes_of};
 
-// The first of the n samples that is refused, by its index.
-pub(crate) fn check_samples(from: Kind, to: Kind, src: &[u8], n: usize) -> Result<(), Refusal>
-    requires { n ≡ count_of from src.now }
+// The first sample that is refused, by its index.
+pub(crate) fn check_samples(from: Kind, to: Kind, src: &[u8]) -> Result<(), Refusal>
     ensures { rowed_outcome result ≡ block_answer from to src.now }
 {
+    let n = count(from, src);
     for i in 0..n {
         if let Err(f) = convert(sample_at(from, src, i), to) {
             return Err(Refusal {
@@ -37,11 +37,12 @@ fn bits_to(v: Value, to: Kind) -> u64
     convert(v, to).map_or(0, |w| bits_of(w))
 }
 
-// Lays the conversions of the n samples into dst.
-pub(crate) fn write_samples(from: Kind, to: Kind, src: &[u8], n: usize, dst: &mut [u8])
-    requires { (n ≡ count_of from src.now) × (n * bytes_of to ≤ length dst.old) }
+// Lays the conversions of the samples into dst.
+pub(crate) fn write_samples(from: Kind, to: Kind, src: &[u8], dst: &mut [u8])
+    requires { count_of from src.now * bytes_of to ≤ length dst.old }
     ensures { dst.new ≡ sets dst.old 0 (bytes_for to (map (moved_bits to) (samples_of from src.now))) }
 {
+    let n = count(from, src);
     let width = bytes_of(to);
     for at in 0..n {
         store(

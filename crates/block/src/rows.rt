@@ -1,6 +1,7 @@
 // Blocks of the pairs that convert as rows: the samples are laid out as a row, the row call decides, and what it gave is laid into bytes.
 // Two pairs refuse no sample: their blocks are converted by rows of 16 places, which the compiler keeps in registers, each laid down at once. The
-// others have one row for the whole block, so that a refusal leaves the buffer alone. RULES.md: Migration, Rows.
+// others have one row for the whole block, so that a refusal leaves the buffer alone. A row has a fixed number of places, as no heap is used.
+// RULES.md: Migration, Rows.
 ghost use Rattle.std.specs.Prelude.{◌≡◌, ℕ, ◌+◌, ◌*◌, ◌/◌, ◌^◌, ◌<◌, ◌≤◌, false, map, length, drop};
 ghost use Rattle.std.proofs.lemmas.List.Edits.{sets};
 ghost use Rattle.std.specs.Mem.{type_size};
@@ -96,33 +97,34 @@ pub(crate) fn widened(src: &[u8], dst: &mut [u8]) -> Result<(), Refusal>
     Ok(())
 }
 
-pub(crate) fn floated(src: &[u8], n: usize, dst: &mut [u8]) -> Result<(), Refusal>
-    requires { (n ≡ count_of Kind.U16 src.now) × (n ≤ length dst.old / bytes_of Kind.F32) }
+pub(crate) fn floated(src: &[u8], dst: &mut [u8]) -> Result<(), Refusal>
+    requires { count_of Kind.U16 src.now ≤ length dst.old / bytes_of Kind.F32 }
     ensures answer { rowed_outcome result ≡ block_answer Kind.U16 Kind.F32 src.now }
     ensures exit { dst.new ≡ block_exit Kind.U16 Kind.F32 src.now dst.old }
 {
-    by_rows::<Float>(src, n, dst);
+    by_rows::<Float>(src, src.len() / 2, dst);
     Ok(())
 }
 
 // u16 to u8: the front of the buffer is the second row.
-pub(crate) fn narrowed(src: &[u8], n: usize, dst: &mut [u8]) -> Result<(), Refusal>
-    requires { (n ≡ count_of Kind.U16 src.now) × (n ≤ length dst.old / bytes_of Kind.U8) × (n ≤ row_places) }
+pub(crate) fn narrowed(src: &[u8], dst: &mut [u8]) -> Result<(), Refusal>
+    requires { (count_of Kind.U16 src.now ≤ length dst.old / bytes_of Kind.U8) × (count_of Kind.U16 src.now ≤ row_places) }
     ensures answer { rowed_outcome result ≡ block_answer Kind.U16 Kind.U8 src.now }
     ensures exit { dst.new ≡ block_exit Kind.U16 Kind.U8 src.now dst.old }
 {
     let mut places = [0u16; ROW_PLACES];
-    let wide = &mut places[..n];
+    let wide = &mut places[..src.len() / 2];
     load(src, wide);
     row::u16_to_u8(wide, &mut dst[..wide.len()])
 }
 
 // f32 to u16.
-pub(crate) fn made_whole(src: &[u8], n: usize, dst: &mut [u8]) -> Result<(), Refusal>
-    requires { (n ≡ count_of Kind.F32 src.now) × (n ≤ length dst.old / bytes_of Kind.U16) × (n ≤ row_places) }
+pub(crate) fn made_whole(src: &[u8], dst: &mut [u8]) -> Result<(), Refusal>
+    requires { (count_of Kind.F32 src.now ≤ length dst.old / bytes_of Kind.U16) × (count_of Kind.F32 src.now ≤ row_places) }
     ensures answer { rowed_outcome result ≡ block_answer Kind.F32 Kind.U16 src.now }
     ensures exit { dst.new ≡ block_exit Kind.F32 Kind.U16 src.now dst.old }
 {
+    let n = src.len() / 4;
     let mut places = [0.0f32; ROW_PLACES];
     let reals = &mut places[..n];
     load(src, reals);

@@ -14,29 +14,30 @@ use sample::count;
 use value::{Kind, Refusal, bytes_of};
 
 // The samples one by one: the buffer, which has room for them, is written whole, or left as it was.
-fn one_by_one(from: Kind, to: Kind, src: &[u8], n: usize, dst: &mut [u8]) -> Result<(), Refusal>
-    requires { (n ≡ count_of from src.now) × (n ≤ length dst.old / bytes_of to) }
+fn one_by_one(from: Kind, to: Kind, src: &[u8], dst: &mut [u8]) -> Result<(), Refusal>
+    requires { count_of from src.now ≤ length dst.old / bytes_of to }
     ensures answer { rowed_outcome result ≡ block_answer from to src.now }
     ensures exit { dst.new ≡ block_exit from to src.now dst.old }
 {
-    check_samples(from, to, src, n)?;
-    write_samples(from, to, src, n, dst);
+    check_samples(from, to, src)?;
+    write_samples(from, to, src, dst);
     Ok(())
 }
 
 // The pairs that have rows go through the row calls, f16 to f32 without NaN through a pass of its own, all else sample by sample.
-fn by_pair(from: Kind, to: Kind, src: &[u8], n: usize, dst: &mut [u8]) -> Result<(), Refusal>
-    requires { (n ≡ count_of from src.now) × (n ≤ length dst.old / bytes_of to) }
+fn by_pair(from: Kind, to: Kind, src: &[u8], dst: &mut [u8]) -> Result<(), Refusal>
+    requires { count_of from src.now ≤ length dst.old / bytes_of to }
     ensures answer { rowed_outcome result ≡ block_answer from to src.now }
     ensures exit { dst.new ≡ block_exit from to src.now dst.old }
 {
+    let n = count(from, src);
     match (from, to) {
         (Kind::U8, Kind::U16) => widened(src, dst),
-        (Kind::U16, Kind::F32) => floated(src, n, dst),
-        (Kind::U16, Kind::U8) if n <= ROW_PLACES => narrowed(src, n, dst),
-        (Kind::F32, Kind::U16) if n <= ROW_PLACES => made_whole(src, n, dst),
-        (Kind::F16, Kind::F32) if !holds_nan(src, n) => from_halves(src, n, dst),
-        _ => one_by_one(from, to, src, n, dst),
+        (Kind::U16, Kind::F32) => floated(src, dst),
+        (Kind::U16, Kind::U8) if n <= ROW_PLACES => narrowed(src, dst),
+        (Kind::F32, Kind::U16) if n <= ROW_PLACES => made_whole(src, dst),
+        (Kind::F16, Kind::F32) if !holds_nan(src) => from_halves(src, dst),
+        _ => one_by_one(from, to, src, dst),
     }
 }
 
@@ -63,14 +64,13 @@ fn step(
     }
     let earlier = s.answer;
     earlier?;
-    let n = count(from, src);
-    if dst.len() / bytes_of(to) < n {
+    if dst.len() / bytes_of(to) < count(from, src) {
         return Err(Refusal {
             number: 9,
             place: 0,
         });
     }
-    let moved = by_pair(from, to, src, n, dst);
+    let moved = by_pair(from, to, src, dst);
     moved.map_err(|f| Refusal {
         number: f.number,
         place: s.samples.wrapping_add(f.place),

@@ -84,7 +84,8 @@ module _ (s : Difference) (left right : List ℕ) (ls rs : List (List ℕ)) (l :
   none_first None = refl
 
   pub all_same : d ≡ 0 → s.different < 2 ^ 64
-      → record { left = s.left + length ls; right = s.right + length rs; different = s.different; first = s.first; widest = s.widest } ≡ difference_after s left right
+      → record { left = s.left + length ls; right = s.right + length rs; different = s.different; first = s.first; widest = s.widest }
+      ≡ difference_after s left right
   unfolding difference_after
   all_same none small =
       let nothing : how_many is_different (map pair_of (zip ls rs)) ≡ 0 = sym differing ∙ none in

@@ -1,7 +1,7 @@
 -- The places that two lists share: as many as the shorter one has, the one at an index by the two samples there, and joined where the lists are.
-use Rattle.std.proofs.Common.{◌≡◌, ℕ, zero, suc, ◌<◌, ◌≤◌, min, max, List, [], ◌∷◌, ◌++◌, length, get_or, take, refl, ap, ◌∙◌}
+use Rattle.std.proofs.Common.{◌≡◌, ℕ, zero, suc, ◌<◌, ◌≤◌, min, max, List, [], ◌∷◌, ◌++◌, length, get_or, take, refl, ap}
 use Rattle.std.proofs.Common.{le_of_suc-le-suc, not-suc-le-zero, arith}
-use Rattle.strip.specs.Difference.{Pair, distance, shared, widest_of}
+use Rattle.strip.specs.Difference.{Pair, shared, widest_of}
 
 -- ---- two lists
 

@@ -38,6 +38,7 @@ fn differ(left: &[u8; 4], right: &[u8; 4]) -> bool
     bits_of(left) != bits_of(right)
 }
 
+// A sum of ones, which is compiled to vector code: `filter` and `count` aren't, and take six times as long.
 fn count_different(left: &[[u8; 4]], right: &[[u8; 4]]) -> u32
     requires { length left.now ≤ most }
     ensures { result ≡ sum_by (λ p. from_bool (differ p)) (zip left.now right.now) }

@@ -13,7 +13,7 @@ use Rattle.block.proofs.passes.check_samples.Goals.{In-loop-i}
 below : (c : In-loop-i) → (let a = c.args in c.loop-i.i < length (samples_of a.from a.src.now))
 below c =
     let a = c.args in
-    omega (arith, length_samples a.from (count_of a.from a.src.now) a.src.now, c.requires, c.loop-i-test.true)
+    omega (arith, length_samples a.from (count_of a.from a.src.now) a.src.now, c.count-n.ensures, c.loop-i-test.true)
 
 pub returns-in-Err : goal.returns-in-Err
 returns-in-Err c =
@@ -23,7 +23,7 @@ returns-in-Err c =
     ap (bits_to a.to) (sym c.sample_at.ensures) ∙ refused_here a.to c.sample_at.result c.convert.ensures c.in-Err.is in
     let at = reach_stop (refused_to a.to) 0 s c.loop-i.i (value_of a.from 0) (below ((goal.at.returns-in-Err c).In-loop-i)) c.loop-i.invariant
     (ap is_refused told) ∙ reach_start (refused_to a.to) s in
-    sample_bad a.from a.to a.src.now at (omega (arith, c.requires, c.loop-i-test.true)) (sym (ap refusal_number told))
+    sample_bad a.from a.to a.src.now at (omega (arith, c.count-n.ensures, c.loop-i-test.true)) (sym (ap refusal_number told))
 
 pub loop-i-preserved : goal.loop-i-preserved
 loop-i-preserved c =
@@ -37,6 +37,6 @@ returns c =
     let a = c.args in
     let s = samples_of a.from a.src.now in
     let at = reach_end (refused_to a.to) 0 s c.loop-i.i
-    (omega (arith, length_samples a.from (count_of a.from a.src.now) a.src.now, c.requires, c.loop-i-test.false)) c.loop-i.invariant
+    (omega (arith, length_samples a.from (count_of a.from a.src.now) a.src.now, c.count-n.ensures, c.loop-i-test.false)) c.loop-i.invariant
     ∙ reach_start (refused_to a.to) s in
-    samples_good a.from a.to a.src.now at (omega (arith, c.requires, c.loop-i-test.false))
+    samples_good a.from a.to a.src.now at (omega (arith, c.count-n.ensures, c.loop-i-test.false))

@@ -16,7 +16,7 @@ loop-at-preserved c =
     let a = c.args in
     let s = samples_of a.from a.src.now in
     let i = c.loop-at.at in
-    let below : i < length s = omega (arith, length_samples a.from (count_of a.from a.src.now) a.src.now, c.requires.0, c.loop-at-test.true) in
+    let below : i < length s = omega (arith, length_samples a.from (count_of a.from a.src.now) a.src.now, c.count-n.ensures, c.loop-at-test.true) in
     let place : i * c.bytes_of-width.result ≡ 0 + i * bytes_of a.to = rw (c.bytes_of-width.ensures.0) (sym (zero-add (i * bytes_of a.to))) in
     fill_step a.to (moved_bits a.to) s a.dst.now 0 i (value_of a.from 0) below (sym c.sample_at.ensures) c.bits_to.ensures c.loop-at.dst
     (i * c.bytes_of-width.result) c.bytes_of-width.result place c.bytes_of-width.ensures.0 c.loop-at.invariant c.store.ensures
@@ -26,4 +26,4 @@ returns c =
     let a = c.args in
     let s = samples_of a.from a.src.now in
     fill_end a.to (moved_bits a.to) s a.dst.now 0 c.loop-at.dst c.loop-at.at
-    (omega (arith, length_samples a.from (count_of a.from a.src.now) a.src.now, c.requires.0, c.loop-at-test.false)) c.loop-at.invariant
+    (omega (arith, length_samples a.from (count_of a.from a.src.now) a.src.now, c.count-n.ensures, c.loop-at-test.false)) c.loop-at.invariant

@@ -1,4 +1,5 @@
 -- The rows hold what the block asks for.
+use Rattle.std.proofs.Common.{refl}
 use Rattle.block.proofs.Pairs.{floated_block}
 use Rattle.block.proofs.rows.floated.Goals as goal
 
@@ -6,5 +7,5 @@ pub returns : goal.returns
 returns c =
     let a = c.args in
     let both =
-    floated_block a.src.now a.dst.now c.requires.0 c.requires.1 (λ i. (c.type_inv.src i).fits) c.by_rows.ensures in
+    floated_block a.src.now a.dst.now refl c.requires (λ i. (c.type_inv.src i).fits) c.by_rows.ensures in
     record { answer = both.0; exit = both.1 }

@@ -14,6 +14,6 @@ pub returns : goal.returns
 returns c =
     let a = c.args in
     let both =
-    block_done a.from a.to a.src.now a.dst.now (rw (← c.requires.0) c.requires.1)
+    block_done a.from a.to a.src.now a.dst.now c.requires
     (sym (ap rowed_outcome c.in_ok-check_samples.was) ∙ c.check_samples.ensures) c.write_samples.ensures in
     record { answer = both.0; exit = both.1 }

@@ -17,7 +17,7 @@ pub returns-then-dst-bytes_of : goal.returns-then-dst-bytes_of
 returns-then-dst-bytes_of c =
     let a = c.args in
     let none : left_of a.from a.src.now ≡ 0 = cc in
-    let short = shorter (length a.dst.now) c.count-n.ensures c.bytes_of-2.ensures.0 c.if-dst-bytes_of.true in
+    let short = shorter (length a.dst.now) c.count.ensures c.bytes_of-2.ensures.0 c.if-dst-bytes_of.true in
     let r = step_accepted a.from a.to a.s.samples (rowed_outcome a.s.answer) a.src.now a.dst.now (ap rowed_outcome c.in_ok-earlier.was)
     (step_short a.from a.to a.s.samples a.src.now a.dst.now none short) in
     record { answer = r.0; exit = r.1 }
@@ -26,9 +26,9 @@ pub returns : goal.returns
 returns c =
     let a = c.args in
     let none : left_of a.from a.src.now ≡ 0 = cc in
-    let fits = enough (length a.dst.now) c.count-n.result c.bytes_of-2.ensures.0 c.if-dst-bytes_of.false in
+    let fits = enough (length a.dst.now) c.count.result c.bytes_of-2.ensures.0 c.if-dst-bytes_of.false in
     let placed = placed_is a.s.samples c.by_pair-moved.result c.map_err.result (λ e f p. search rules) c.map_err.ensures.cases in
     let r = step_accepted a.from a.to a.s.samples (rowed_outcome a.s.answer) a.src.now a.dst.now (ap rowed_outcome c.in_ok-earlier.was)
-    (step_block a.from a.to a.s.samples a.src.now a.dst.now none (rw (← c.count-n.ensures) fits)
+    (step_block a.from a.to a.s.samples a.src.now a.dst.now none (rw (← c.count.ensures) fits)
     (c.by_pair-moved.ensures.answer, c.by_pair-moved.ensures.exit) placed) in
     record { answer = r.0; exit = r.1 }

@@ -76,4 +76,5 @@ pub returns : goal.returns
 returns c =
     let s = c.args.samples.now in
     let inv = c.loop-sample.invariant in
-    tally_is s c.args.lowest c.args.highest c.ranges.lowest c.ranges.highest (omega (arith, length_bits s, c.loop-sample-test.false)) inv.0 inv.1 inv.2 inv.3 inv.4 inv.5 inv.6
+    tally_is s c.args.lowest c.args.highest c.ranges.lowest c.ranges.highest (omega (arith, length_bits s, c.loop-sample-test.false))
+    inv.0 inv.1 inv.2 inv.3 inv.4 inv.5 inv.6
