@@ -25,7 +25,8 @@ wide_bits-wide-requires c =
     let a = c.args in (
       c.requires.0,
       rw (← sample c)
-          (fails_here (nan_in f16) (numbers_in 2 (length a.src.now / 2) a.src.now) c.loop-i.i 0 c.requires.1 (below ((goal.at.wide_bits-wide-requires c).In-loop-i))),
+          (fails_here (nan_in f16) (numbers_in 2 (length a.src.now / 2) a.src.now) c.loop-i.i 0 c.requires.1
+          (below ((goal.at.wide_bits-wide-requires c).In-loop-i))),
     )
 
 pub loop-i-preserved : goal.loop-i-preserved
