@@ -120,6 +120,7 @@ fn run_in<R: Read + Seek, W: Write>(
 }
 
 // Reads a block and moves it on.
+// Here and below a turn is left. No type says so: the last state, which a run answers, has none.
 fn step<R: Read, W: Write>(
     input: &mut R,
     output: &mut W,

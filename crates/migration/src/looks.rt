@@ -79,6 +79,7 @@ fn look_in<R: Read + Seek>(
 }
 
 // Reads a block and looks at it.
+// Here and below a turn is left. No type says so: the last state, which a run answers, has none.
 fn look_on<R: Read>(input: &mut R, from: Kind, to: Kind, src: &mut Buffer, r: Look) -> Look
     requires { 0 < r.turns }
     ensures fewer { result.turns < r.turns }

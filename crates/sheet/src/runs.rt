@@ -92,6 +92,7 @@ fn turns_left(turns: u64, full: bool, samples: u64) -> u64
 }
 
 // Reads a block and tells of it.
+// Here and below a turn is left. No type says so: the last state, which a run answers, has none.
 fn step<R: Read>(input: &mut R, src: &mut Buffer, r: Telling) -> Telling
     requires { 0 < r.turns }
     ensures fewer { result.turns < r.turns }

@@ -12,7 +12,7 @@ use value::{Kind, Refusal};
 
 // The bits of a float kind, in its width.
 #[derive(Clone, Copy)]
-pub(crate) enum Pattern {
+pub(crate) enum FloatBits {
     F16(u16),
     F32(u32),
     F64(u64),
@@ -20,7 +20,7 @@ pub(crate) enum Pattern {
 
 // Rule 7 for a kind that is no float, and 4.
 #[tactic(auto, unfolding(crate::specs::Samples::any_wide, crate::specs::Samples::too_wide, crate::specs::Samples::kind_for))]
-fn pattern_of(s: Sample) -> Result<Pattern, Refusal>
+fn pattern_of(s: Sample) -> Result<FloatBits, Refusal>
     ensures { outcome_of result ≡ chain (float_rules s) (gives (of_float pattern_in s)) }
 {
     let wide = Refusal {
@@ -28,9 +28,9 @@ fn pattern_of(s: Sample) -> Result<Pattern, Refusal>
         place: 0,
     };
     match value::kind_of_number(s.kind) {
-        Some(Kind::F16) => u16::try_from(s.bits).map(Pattern::F16).map_err(|_| wide),
-        Some(Kind::F32) => u32::try_from(s.bits).map(Pattern::F32).map_err(|_| wide),
-        Some(Kind::F64) => Ok(Pattern::F64(s.bits)),
+        Some(Kind::F16) => u16::try_from(s.bits).map(FloatBits::F16).map_err(|_| wide),
+        Some(Kind::F32) => u32::try_from(s.bits).map(FloatBits::F32).map_err(|_| wide),
+        Some(Kind::F64) => Ok(FloatBits::F64(s.bits)),
         _ => Err(Refusal {
             number: 7,
             place: 0,
@@ -43,9 +43,9 @@ fn classified(s: Sample) -> Result<Class, Refusal>
     ensures { outcome_of result ≡ classify_of s }
 {
     Ok(match pattern_of(s)? {
-        Pattern::F16(bits) => float::classify(bits),
-        Pattern::F32(bits) => float::classify(bits),
-        Pattern::F64(bits) => float::classify(bits),
+        FloatBits::F16(bits) => float::classify(bits),
+        FloatBits::F32(bits) => float::classify(bits),
+        FloatBits::F64(bits) => float::classify(bits),
     })
 }
 
@@ -61,9 +61,9 @@ fn positioned(s: Sample) -> Result<i64, Refusal>
     ensures { outcome_of result ≡ sample_position s }
 {
     Ok(match pattern_of(s)? {
-        Pattern::F16(bits) => i64::from(float::position(bits)),
-        Pattern::F32(bits) => i64::from(float::position(bits)),
-        Pattern::F64(bits) => float::position(bits),
+        FloatBits::F16(bits) => i64::from(float::position(bits)),
+        FloatBits::F32(bits) => i64::from(float::position(bits)),
+        FloatBits::F64(bits) => float::position(bits),
     })
 }
 

@@ -65,7 +65,7 @@ impl Rows {
         Some(Part { kind, count })
     }
 
-    // Puts a sample in the row of its kind; no other kind has a row.
+    // Puts a sample in the row of its kind; no other kind has a row. A type for the index would hold this one bound, which a use has at hand.
     fn store(&mut self, v: Value, at: usize)
         requires { at < MOST_SAMPLES }
     {
