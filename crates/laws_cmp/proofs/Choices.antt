@@ -1,11 +1,11 @@
 -- The clauses of max, min, clamp, min_by and max_by of vstd/std_specs/cmp.rs, each from the definition at the orders that it names.
-use mathlib.Core.Path.{◌≡◌, refl, sym, ◌∙◌, ap}
+use mathlib.Core.Path.{◌≡◌, refl, sym, ◌∙◌}
 use mathlib.Core.Bool.{true, false}
 use Rattle.float.specs.declared.Order.{Order}
 use Rattle.float.specs.declared.Order.TheVariants.{Less, Equal, Greater, Unordered}
 use Rattle.float.specs.Order.{is_less, is_less_or_equal, is_greater, is_unordered}
 use Rattle.value.specs.declared.Value.{Value}
-use Rattle.value.specs.Outcome.{gives, refuses, and_then}
+use Rattle.value.specs.Outcome.{gives, refuses}
 use Rattle.cmp.specs.Compare.{compare_of}
 use Rattle.cmp.specs.Inner.{chosen_by}
 use Rattle.choose.specs.Choose.{min_of, max_of, clamp_of}
