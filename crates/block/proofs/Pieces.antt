@@ -9,8 +9,7 @@ use Rattle.sample.proofs.Samplings.{length_numbers, numbers_piece}
 use Rattle.block.specs.Output.{bytes_for}
 use Rattle.block.proofs.Samplings.{Filled, fill_piece}
 use Rattle.std.specs.Simd.{first_chunks}
-use Rattle.std.specs.Int.{from_le_bytes}
-use Rattle.std.proofs.Common.{zero, suc, [], ◌∷◌, refl, map, subst, get_or, drop-cons, mul-one, suc-mul, zero-mul, le_of_suc-le-suc, not-suc-le-zero, w16, w32}
+use Rattle.std.proofs.Common.{zero, suc, [], refl, map, subst, get_or, drop-cons, mul-one, suc-mul, zero-mul, le_of_suc-le-suc, not-suc-le-zero}
 use Rattle.bytewise.specs.Numbers.{from_little_endian}
 use lib.ListN.{length-replicate}
 
@@ -41,22 +40,6 @@ number_read w f same src q i h room =
     let own = ap (λ (l : List (List ℕ)). get_or l i []) q ∙ chunk_here w _ src i h in
     let size = ap length own ∙ length-take-le w (drop (i * w) src) (rw (length-drop (i * w) src) (omega (arith, mul_comm w i))) in
     same _ size ∙ ap from_little_endian own
-
-pub two_are : (l : List ℕ) → length l ≡ 2 → from_le_bytes w16 l ≡ from_little_endian l
-unfolding from_little_endian
-two_are (a ∷ b ∷ []) h = omega arith
-two_are [] h = absurd (omega (arith, h))
-two_are (a ∷ []) h = absurd (omega (arith, h))
-two_are (a ∷ b ∷ c ∷ l) h = absurd (omega (arith, h))
-
-pub four_are : (l : List ℕ) → length l ≡ 4 → from_le_bytes w32 l ≡ from_little_endian l
-unfolding from_little_endian
-four_are (a ∷ b ∷ c ∷ d ∷ []) h = omega arith
-four_are [] h = absurd (omega (arith, h))
-four_are (a ∷ []) h = absurd (omega (arith, h))
-four_are (a ∷ b ∷ []) h = absurd (omega (arith, h))
-four_are (a ∷ b ∷ c ∷ []) h = absurd (omega (arith, h))
-four_are (a ∷ b ∷ c ∷ d ∷ e ∷ l) h = absurd (omega (arith, h))
 
 -- the slice from a place to the end
 pub rest_is : {A : Type 0} (at : ℕ) (l : List A) → take (length l - at) (drop at l) ≡ drop at l

@@ -1,12 +1,12 @@
 -- Bytes and their numbers, low byte first.
-use mathlib.Core.Path.{◌≡◌, refl, sym, ◌∙◌, ap}
+use mathlib.Core.Path.{◌≡◌, refl, ap}
 use mathlib.Core.List.{List, [], ◌∷◌}
-use Prim.Native.Nat.{ℕ, zero, suc, ◌+◌, ◌*◌, ◌/◌, ◌^◌, ◌<◌}
-use native.Mathlib.Nat.{mul_comm, zero-add, pow-suc}
-use native.Mathlib.Numerals.{add-one}
+use Prim.Native.Nat.{ℕ, zero, suc, ◌/◌, ◌^◌, ◌<◌}
+use native.Mathlib.Nat.{pow-suc}
 use native.Mathlib.Omega.{arith}
-use lib.ListN.{length, take, drop, get_or}
-use lib.Seq.{drop-cons}
+use lib.ListN.{length, take, get_or}
+use Rattle.std.specs.Int.{from_le_bytes}
+use Rattle.std.proofs.Common.{w16, w32}
 use Rattle.bytewise.specs.Numbers.{little_endian, from_little_endian}
 
 pub length_little : (w n : ℕ) → length (little_endian w n) ≡ w
@@ -20,36 +20,20 @@ number_below zero bytes h = omega arith
 number_below (suc w) [] h = rw (pow-suc 256 w) (let k = number_below w [] h in omega arith)
 number_below (suc w) (x ∷ bytes) h = rw (pow-suc 256 w) (let k = number_below w bytes (λ i. h (suc i)) in let l = h 0 in omega (arith, k, l))
 
--- ---- numbers of two and four bytes
+-- ---- two and four bytes are one number, by the machine's words and by the definition's
 
-pub two_here : (src : List ℕ) (i : ℕ) → 2 * i + 1 < length src
-    → from_little_endian (take 2 (drop (i * 2) src)) ≡ get_or src (2 * i + 1) 0 * 256 + get_or src (2 * i) 0
+pub two_are : (l : List ℕ) → length l ≡ 2 → from_le_bytes w16 l ≡ from_little_endian l
 unfolding from_little_endian
-two_here src i h =
-    let j = 2 * i in
-    ap (λ (m : ℕ). from_little_endian (take 2 (drop m src))) (mul_comm i 2)
-    ∙ ap (λ (l : List ℕ). from_little_endian (take 2 l))
-    (drop-cons src j 0 (omega arith) ∙ ap (λ (l : List ℕ). get_or src j 0 ∷ l) (drop-cons src (suc j) 0 (omega arith)))
-    ∙ ap (λ (x : ℕ). x * 256 + get_or src j 0) (zero-add (get_or src (suc j) 0))
-    ∙ ap (λ (m : ℕ). get_or src m 0 * 256 + get_or src j 0) (sym (add-one j))
+two_are (a ∷ b ∷ []) h = omega arith
+two_are [] h = absurd (omega (arith, h))
+two_are (a ∷ []) h = absurd (omega (arith, h))
+two_are (a ∷ b ∷ c ∷ l) h = absurd (omega (arith, h))
 
-pub four_here : (src : List ℕ) (i : ℕ) → 4 * i + 3 < length src
-    → from_little_endian (take 4 (drop (i * 4) src))
-    ≡ ((get_or src (4 * i + 3) 0 * 256 + get_or src (4 * i + 2) 0) * 256 + get_or src (4 * i + 1) 0) * 256 + get_or src (4 * i) 0
+pub four_are : (l : List ℕ) → length l ≡ 4 → from_le_bytes w32 l ≡ from_little_endian l
 unfolding from_little_endian
-four_here src i h =
-    let j = 4 * i in
-    let one : j + 1 ≡ suc j = omega arith in
-    let two : j + 2 ≡ suc (suc j) = omega arith in
-    let three : j + 3 ≡ suc (suc (suc j)) = omega arith in
-    ap (λ (m : ℕ). from_little_endian (take 4 (drop m src))) (mul_comm i 4)
-    ∙ rw (
-      drop-cons src j 0 (omega arith),
-      drop-cons src (suc j) 0 (omega arith),
-      drop-cons src (suc (suc j)) 0 (omega arith),
-      drop-cons src (suc (suc (suc j))) 0 (omega arith),
-      zero-add (get_or src (suc (suc (suc j))) 0),
-      one,
-      two,
-      three,
-    ) refl
+four_are (a ∷ b ∷ c ∷ d ∷ []) h = omega arith
+four_are [] h = absurd (omega (arith, h))
+four_are (a ∷ []) h = absurd (omega (arith, h))
+four_are (a ∷ b ∷ []) h = absurd (omega (arith, h))
+four_are (a ∷ b ∷ c ∷ []) h = absurd (omega (arith, h))
+four_are (a ∷ b ∷ c ∷ d ∷ e ∷ l) h = absurd (omega (arith, h))

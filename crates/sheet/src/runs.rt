@@ -1,6 +1,5 @@
 // A strip told, block by block. What tells of a block is strip::tally_block.
 ghost use Rattle.std.specs.Prelude.{◌≤◌, ◌<◌, ◌≡◌, eqb, length, take};
-ghost use Rattle.strip.specs.SheetTheorem.{blank};
 ghost use Rattle.sheet.specs.Runs.{buffer_bytes, block_bytes, turns_left, TellsBlock, Runs};
 ghost use Rattle.sheet.specs.Inner.{Stepped};
 
@@ -19,23 +18,6 @@ pub(crate) struct Telling {
     pub sheet: Sheet,
     pub fault: Option<i32>,
     pub turns: u64,
-}
-
-// Nothing told yet.
-fn blank_sheet() -> Sheet
-    ensures { result ≡ blank }
-{
-    Sheet {
-        samples: 0,
-        zero: 0,
-        subnormal: 0,
-        normal: 0,
-        infinite: 0,
-        nan: 0,
-        lowest: None,
-        highest: None,
-        tail: 0,
-    }
 }
 
 fn large_buffer() -> Buffer
@@ -57,7 +39,7 @@ fn run_in<R: Read>(input: &mut R, src: &mut Buffer) -> Telling
     ensures { Runs result }
 {
     let mut r = Telling {
-        sheet: blank_sheet(),
+        sheet: Sheet::default(),
         fault: None,
         turns: u64::MAX,
     };

@@ -1,22 +1,11 @@
 -- The samples of a block as arrays of four bytes: their bits are the numbers that stand in the block.
 use Rattle.std.specs.Simd.{first_chunks}
-use Rattle.std.proofs.Common.{◌≡◌, ℕ, zero, suc, ◌-◌, ◌/◌, min, List, [], ◌∷◌, length, take, drop, refl, ap, ◌∙◌, arith, w32}
-use Rattle.std.specs.Int.{from_le_bytes}
+use Rattle.std.proofs.Common.{◌≡◌, ℕ, zero, suc, ◌-◌, ◌/◌, min, List, [], ◌∷◌, length, take, drop, refl, ap, ◌∙◌, arith}
 use Rattle.bytewise.specs.Numbers.{from_little_endian}
 use Rattle.sample.specs.Samples.{numbers_in}
 use Rattle.sample.proofs.Samplings.{numbers_take}
 use Rattle.strip.specs.Sheet.{most, taken_in}
 use Rattle.strip.specs.Inner.{all_bits}
-
--- four bytes are one number, by the machine's words and by the definition's
-pub word_of : (l : List ℕ) → length l ≡ 4 → from_le_bytes w32 l ≡ from_little_endian l
-unfolding from_little_endian
-word_of (a ∷ b ∷ c ∷ d ∷ []) h = omega arith
-word_of (a ∷ b ∷ c ∷ []) h = absurd (omega (arith, h))
-word_of (a ∷ b ∷ []) h = absurd (omega (arith, h))
-word_of (a ∷ []) h = absurd (omega (arith, h))
-word_of [] h = absurd (omega (arith, h))
-word_of (a ∷ b ∷ c ∷ d ∷ e ∷ l) h = absurd (omega (arith, h))
 
 bits_of_chunks : (k : ℕ) (src : List ℕ) → all_bits (first_chunks 4 k src) ≡ numbers_in 4 k src
 unfolding numbers_in

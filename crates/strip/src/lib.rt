@@ -14,7 +14,7 @@ pub const MOST: u64 = 4294967295;
 
 // What was told of samples: how many there were, how many of each class, the lowest and the highest that aren't NaN, and the bytes left over
 // behind them; before the first, none and None.
-#[derive(Clone, Copy)]
+#[derive(Clone, Copy, Default)]
 pub struct Sheet {
     pub samples: u64,
     pub zero: u64,

@@ -2,7 +2,8 @@
 use Rattle.std.specs.Int.{from_le_bytes}
 use Rattle.std.proofs.Common.{ap, ◌∙◌, arith, w32}
 use lib.Ieee.{binary32, of_bits}
-use Rattle.block.proofs.Pieces.{number_read, four_are}
+use Rattle.bytewise.proofs.LittleEndian.{four_are}
+use Rattle.block.proofs.Pieces.{number_read}
 use Rattle.block.proofs.layouts.F32Sample.at.Goals as goal
 
 pub returns : goal.returns

@@ -1,7 +1,8 @@
 -- Two bytes, the low one first.
 use Rattle.std.specs.Int.{from_le_bytes}
 use Rattle.std.proofs.Common.{◌∙◌, arith, w16}
-use Rattle.block.proofs.Pieces.{number_read, two_are}
+use Rattle.bytewise.proofs.LittleEndian.{two_are}
+use Rattle.block.proofs.Pieces.{number_read}
 use Rattle.block.proofs.layouts.U16Sample.at.Goals as goal
 
 pub returns : goal.returns
