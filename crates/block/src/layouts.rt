@@ -118,7 +118,7 @@ fn float_of(bits: u32) -> f32
     ensures { result ≡ from_bits binary32 bits }
 {
     if float::is_nan(bits) {
-        0.0f32 / 0.0f32
+        f32::NAN
     } else {
         f32::from_bits(bits)
     }

@@ -15,7 +15,7 @@ use value::Refusal;
 // How many places a row for a whole block has; a longer block of such a pair goes sample by sample.
 pub const ROW_PLACES: usize = 32768;
 
-// How many samples came before, and what they were answered; before the first, none and Done.
+// How many samples came before, and what they were answered; before the first, 0 and Ok.
 #[derive(Clone, Copy)]
 pub struct Progress {
     pub samples: usize,

@@ -21,10 +21,7 @@ pub(crate) fn check_samples(from: Kind, to: Kind, src: &[u8]) -> Result<(), Refu
     let n = count(from, src);
     for i in 0..n {
         if let Err(f) = convert(sample_at(from, src, i), to) {
-            return Err(Refusal {
-                number: f.number,
-                place: i,
-            });
+            return Err(Refusal { place: i, ..f });
         }
     }
     Ok(())

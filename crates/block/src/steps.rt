@@ -41,6 +41,8 @@ fn by_pair(from: Kind, to: Kind, src: &[u8], dst: &mut [u8]) -> Result<(), Refus
     }
 }
 
+// The two kinds stay apart here and below, as every definition takes them apart.
+
 // Bytes left over decide; else an earlier refusal stays; without one the room decides, and then the samples. A buffer without room is about no
 // sample, so it has the place 0; the place of a sample in the block is told as its place in the whole.
 #[tactic(auto, using(crate::proofs::Blocks::left_over, crate::proofs::Blocks::exit_left))]
@@ -72,8 +74,8 @@ fn step(
     }
     let moved = by_pair(from, to, src, dst);
     moved.map_err(|f| Refusal {
-        number: f.number,
         place: s.samples.wrapping_add(f.place),
+        ..f
     })
 }
 

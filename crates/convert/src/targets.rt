@@ -128,17 +128,12 @@ fn float_in(x: Parts, format: FloatFormat) -> Result<Found, Refusal>
 // ---- the value
 
 impl Found {
-    // By hand, as the library has no conversion from a sign and a magnitude.
     fn signed(self) -> i64
         requires { mag (signed_of self.negative self.number) < 2 ^ 63 }
         ensures { result ≡ signed_of self.negative self.number }
     {
         if self.negative {
-            if self.number == 0 {
-                0
-            } else {
-                -((self.number - 1) as i64) - 1
-            }
+            0i64.saturating_sub_unsigned(self.number)
         } else {
             self.number as i64
         }

@@ -4,6 +4,7 @@ ghost use Rattle.std.specs.Int.Signed.{lt_z};
 ghost use Rattle.std.specs.Ordering.{partial_lt};
 ghost use Rattle.float.specs.Inner.{natural_less, integer_less};
 
+// A whole number of the machine.
 pub trait Integer: Copy + PartialOrd {
     // The integer that it is.
     ghost integer: { Self → ℤ };

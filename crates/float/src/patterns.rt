@@ -8,6 +8,7 @@ ghost use Rattle.float.specs.Inner.{natural_less};
 use crate::Integer;
 use std::ops::Sub;
 
+// A pattern of a float format, as a number of its width.
 pub trait Pattern: Copy + PartialOrd + Sub<Output = Self> {
     // The signed numbers of its width.
     type Position: Integer;

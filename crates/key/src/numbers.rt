@@ -7,7 +7,7 @@ ghost use Rattle.key.specs.Inner.{InWeights, weights_for, abs_by_weight, number_
 use crate::Weights;
 use value::{Kind, Layout, Value};
 
-// The weight of a sign bit, half, goes alone to the next three: a type that bounds it would be longer than they are.
+// `half`, the weight of a sign bit, is a bare number in the next four: a type that bounds it would be longer than they are.
 
 // The sign bit turned: the key of a signed number from its bits, and its bits from the key.
 fn turned(half: u64, n: u64) -> u64

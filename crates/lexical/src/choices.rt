@@ -11,7 +11,7 @@ use record::{Record, Recorded, refused};
 use value::Refusal;
 
 // The other one when the order is Greater, else the first.
-// The refusal has an arm and is no `?`: what is handed back is a Recorded, and `recorded_of` owes the blank record in that arm.
+// The refusal has an arm of its own and no `?`: the wrong body that hands back the first record beside it (must-fail) is a change of that arm.
 fn chosen_by(decision: Result<Decision, Refusal>, one: Record, other: Record) -> Recorded
     ensures { result ≡ recorded_of (and_then (outcome_of decision) (chosen_from one other)) }
 {

@@ -1,4 +1,4 @@
-// What a report says of samples, noted one by one: nothing is written. RULES.md: Report.
+// What a report says of samples, noted one by one: nothing is written. The two kinds stay apart, as every definition takes them apart. RULES.md: Report.
 ghost use Rattle.value.specs.Outcome.{Outcome, mapped, outcome_of};
 ghost use Rattle.std.specs.Prelude.{◌≡◌, Bool};
 ghost use Rattle.value.specs.declared.Value.{Value};
@@ -73,13 +73,10 @@ fn first_refusal(
     ensures { result ≡ first_of before at (mapped bits_of (outcome_of this)) }
 {
     before?;
-    match this {
-        Ok(_) => Ok(()),
-        Err(f) => Err(Refusal { place: at, ..f }),
-    }
+    this.map(|_| ()).map_err(|f| Refusal { place: at, ..f })
 }
 
-// The tests are closures, since a function of another crate that is passed by its name gets no proof.
+// The tests are closures: a function of another crate, passed by its name, was tried and has no contract here.
 fn noted(s: Seen, v: Value, to: Kind) -> Seen
     ensures { result ≡ noted_of to s v }
 {

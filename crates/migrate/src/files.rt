@@ -16,15 +16,14 @@ pub(crate) const ENAMETOOLONG: i32 = 36;
 
 const EILSEQ: i32 = 84;
 
-// Puts an argument at the front of a buffer: how many bytes it has, 0 where there is none. Of one that is longer, its front fills the buffer.
-pub(crate) fn argument(rt: HostRuntime, i: usize, buf: &mut [u8]) -> usize
-    ensures { result ≤ length buf.new }
-{
-    match rt.arg(i, buf) {
+// An argument, put at the front of a buffer; no bytes where there is none. Of one that is longer, its front fills the buffer.
+pub(crate) fn argument(rt: HostRuntime, i: usize, buf: &mut [u8]) -> &[u8] {
+    let n = match rt.arg(i, buf) {
         Ok(n) => n,
         Err(FillError::TooLong) => buf.len(),
         Err(FillError::NotPresent) => 0,
-    }
+    };
+    &buf[..n]
 }
 
 // Whether there is an argument of this number, be it empty.

@@ -13,7 +13,7 @@ mod sentences;
 
 use files::{argument, is_argument};
 use lines::{put_error, put_no_kind};
-use moves::migrate;
+use moves::{Move, migrate};
 use reports::report;
 use std::io;
 use text::kind_named;
@@ -74,9 +74,8 @@ fn no_options() -> Options {
 // The options stand before the words; one more is taken, if the next argument is one.
 fn with_next(rt: HostRuntime, o: Options) -> Options {
     let mut name = [0u8; 16];
-    let n = argument(rt, o.first, &mut name);
     let first = o.first.wrapping_add(1);
-    match &name[..n] {
+    match argument(rt, o.first, &mut name) {
         b"--raw" => Options {
             first,
             raw: true,
@@ -104,8 +103,7 @@ fn with_next(rt: HostRuntime, o: Options) -> Options {
 // Whether an argument is this word.
 fn says(rt: HostRuntime, i: usize, word: &[u8]) -> bool {
     let mut name = [0u8; 8];
-    let n = argument(rt, i, &mut name);
-    &name[..n] == word
+    argument(rt, i, &mut name) == word
 }
 
 fn move_file(rt: HostRuntime, o: Options) -> io::Result<()> {
@@ -117,15 +115,8 @@ fn move_file(rt: HostRuntime, o: Options) -> io::Result<()> {
         put_no_kind(rt, b"TO")?;
         return Ok(());
     };
-    migrate(
-        rt,
-        from,
-        to,
-        o.first.wrapping_add(2),
-        o.first.wrapping_add(3),
-        o,
-    )?;
-    Ok(())
+    let m = Move { from, to, asked: o };
+    migrate(rt, o.first.wrapping_add(2), o.first.wrapping_add(3), m)
 }
 
 fn report_alone(rt: HostRuntime, o: Options) -> io::Result<()> {
@@ -153,6 +144,5 @@ fn report_to(rt: HostRuntime, o: Options) -> io::Result<()> {
 // The kind that a word names; one that is longer than any name is none.
 fn kind_in(rt: HostRuntime, o: Options, word: usize) -> Option<Kind> {
     let mut name = [0u8; 8];
-    let n = argument(rt, o.first.wrapping_add(word), &mut name);
-    kind_named(&name[..n])
+    kind_named(argument(rt, o.first.wrapping_add(word), &mut name))
 }

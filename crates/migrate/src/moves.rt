@@ -17,77 +17,57 @@ use value::{Kind, Refusal};
 // The system's number for what a file system can't do.
 const EINVAL: i32 = 22;
 
+// What is to be moved: from which kind to which, and what was asked for beside the words.
+#[derive(Clone, Copy)]
+pub(crate) struct Move {
+    pub from: Kind,
+    pub to: Kind,
+    pub asked: Options,
+}
+
 // The paths of IN and OUT are arguments.
-pub(crate) fn migrate(
-    rt: HostRuntime,
-    from: Kind,
-    to: Kind,
-    in_arg: usize,
-    out_arg: usize,
-    o: Options,
-) -> io::Result<()> {
-    if let Some(mut input) = open_in(rt, in_arg, o.raw)? {
-        migrate_from(rt, &mut input, from, to, out_arg, o)?;
+pub(crate) fn migrate(rt: HostRuntime, in_arg: usize, out_arg: usize, m: Move) -> io::Result<()> {
+    if let Some(mut input) = open_in(rt, in_arg, m.asked.raw)? {
+        migrate_from(rt, &mut input, out_arg, m)?;
     }
     Ok(())
 }
 
-fn migrate_from(
-    rt: HostRuntime,
-    input: &mut File,
-    from: Kind,
-    to: Kind,
-    out_arg: usize,
-    o: Options,
-) -> io::Result<()> {
+fn migrate_from(rt: HostRuntime, input: &mut File, out_arg: usize, m: Move) -> io::Result<()> {
     let mut buf = [0u8; 4096];
     match path_in(rt, out_arg, &mut buf) {
         Err(e) => put_failure(rt, b"OUT can't be made", e)?,
         Ok(out) => if out.is_empty() {
             put_error(rt, b"OUT has no name")?;
-        } else if o.into {
-            migrate_into(rt, input, from, to, out, o)?;
+        } else if m.asked.into {
+            migrate_into(rt, input, out, m)?;
         } else if is_taken(rt, out) {
             put_error(rt, b"OUT is there already, and stays as it is")?;
         } else {
-            migrate_beside(rt, input, from, to, out, o)?;
+            migrate_beside(rt, input, out, m)?;
         },
     }
     Ok(())
 }
 
 // OUT is the caller's, and empty, so that no byte of anybody's is written over and nothing stands behind the output. What isn't done leaves it so.
-fn migrate_into(
-    rt: HostRuntime,
-    input: &mut File,
-    from: Kind,
-    to: Kind,
-    out: &str,
-    o: Options,
-) -> io::Result<()> {
+fn migrate_into(rt: HostRuntime, input: &mut File, out: &str, m: Move) -> io::Result<()> {
     match OpenOptions::new().read(true).write(true).open(&rt, out) {
         Err(e) => put_failure(rt, b"OUT can't be opened", e)?,
         Ok(output) => if !is_standard(rt, &output)? {
-            migrate_in(rt, input, output, from, to, o)?;
+            migrate_in(rt, input, output, m)?;
         },
     }
     Ok(())
 }
 
-fn migrate_in(
-    rt: HostRuntime,
-    input: &mut File,
-    mut output: File,
-    from: Kind,
-    to: Kind,
-    o: Options,
-) -> io::Result<()> {
+fn migrate_in(rt: HostRuntime, input: &mut File, mut output: File, m: Move) -> io::Result<()> {
     if is_filled(rt, &mut output)? {
         return Ok(());
     }
     let size = size_of(input);
-    let watch = watched(rt, o.progress, size);
-    let r = run(&rt, input, &mut output, from, to, watch);
+    let watch = watched(rt, m.asked.progress, size);
+    let r = run(&rt, input, &mut output, m.from, m.to, watch);
     let changed = is_changed(input, size);
     if !is_done(r, changed) {
         let _ = output.set_len(0);
@@ -110,14 +90,7 @@ fn is_filled(rt: HostRuntime, file: &mut File) -> io::Result<bool> {
 }
 
 // The file beside OUT is called as OUT is, with `.part-XXXXXX` behind it: other letters for the last six make it this run's alone.
-fn migrate_beside(
-    rt: HostRuntime,
-    input: &mut File,
-    from: Kind,
-    to: Kind,
-    out: &str,
-    o: Options,
-) -> io::Result<()> {
+fn migrate_beside(rt: HostRuntime, input: &mut File, out: &str, m: Move) -> io::Result<()> {
     if out.len() > 4083 {
         put_failure(
             rt,
@@ -128,22 +101,20 @@ fn migrate_beside(
     }
     let n = out.len() + 12;
     let mut part = joined(out.as_bytes(), b".part-XXXXXX");
-    migrate_to(rt, input, from, to, out, &mut part[..n], o)?;
+    migrate_to(rt, input, out, &mut part[..n], m)?;
     Ok(())
 }
 
 fn migrate_to(
     rt: HostRuntime,
     input: &mut File,
-    from: Kind,
-    to: Kind,
     out: &str,
     part: &mut [u8],
-    o: Options,
+    m: Move,
 ) -> io::Result<()> {
     let made = made_beside(rt, part);
     match (made, text_of(part)) {
-        (Ok(output), Ok(part)) => migrate_through(rt, input, output, from, to, out, part, o)?,
+        (Ok(output), Ok(part)) => migrate_through(rt, input, output, out, part, m)?,
         (Err(e), _) => put_failure(rt, b"no file can be made beside OUT", e)?,
         (_, Err(e)) => put_failure(rt, b"no file can be made beside OUT", e)?,
     }
@@ -154,29 +125,27 @@ fn migrate_through(
     rt: HostRuntime,
     input: &mut File,
     mut output: File,
-    from: Kind,
-    to: Kind,
     out: &str,
     part: &str,
-    o: Options,
+    m: Move,
 ) -> io::Result<()> {
     if is_standard(rt, &output)? {
         removed(rt, part);
         return Ok(());
     }
     let size = size_of(input);
-    let watch = watched(rt, o.progress, size);
-    let r = run(&rt, input, &mut output, from, to, watch);
+    let watch = watched(rt, m.asked.progress, size);
+    let r = run(&rt, input, &mut output, m.from, m.to, watch);
     let changed = is_changed(input, size);
     let done = is_done(r, changed);
-    let kept = stored(output, done & !o.unsynced);
+    let kept = stored(output, done & !m.asked.unsynced);
     if !done {
         removed(rt, part);
         put_answer(rt, r, changed)?;
     } else if let Err(e) = kept {
         removed(rt, part);
         put_failure(rt, b"OUT can't be brought to the disk", e)?;
-    } else if named(rt, part, out, o)? {
+    } else if named(rt, part, out, m)? {
         put_answer(rt, r, changed)?;
     }
     Ok(())
@@ -200,7 +169,7 @@ fn stored(file: File, synced: bool) -> io::Result<()> {
 }
 
 // Gives the output its name, unless something has it by now, and brings the folder to the disk: whether all went well; else a line says why.
-fn named(rt: HostRuntime, part: &str, out: &str, o: Options) -> io::Result<bool> {
+fn named(rt: HostRuntime, part: &str, out: &str, m: Move) -> io::Result<bool> {
     if is_taken(rt, out) {
         removed(rt, part);
         put_error(rt, b"OUT is there by now, and stays as it is")?;
@@ -211,7 +180,7 @@ fn named(rt: HostRuntime, part: &str, out: &str, o: Options) -> io::Result<bool>
         put_failure(rt, b"the output can't be given the name OUT", e)?;
         return Ok(false);
     }
-    if o.unsynced {
+    if m.asked.unsynced {
         return Ok(true);
     }
     match folder_stored(rt, out.as_bytes()) {
@@ -227,20 +196,12 @@ fn named(rt: HostRuntime, part: &str, out: &str, o: Options) -> io::Result<bool>
     }
 }
 
-// How many bytes of a path name its folder, with the slash behind it; 0 for a name alone.
-fn folder_bytes(path: &[u8]) -> usize
-    ensures { result ≤ length path.now }
-{
-    match path.iter().rposition(|&b| b == b'/') {
-        Some(at) => at + 1,
-        None => 0,
-    }
-}
-
 // Brings the folder of a path to the disk; EINVAL on a file system that can't do this with a folder.
 fn folder_stored(rt: HostRuntime, path: &[u8]) -> io::Result<()> {
-    let k = folder_bytes(path);
-    let folder = if k == 0 { "." } else { text_of(&path[..k])? };
+    let folder = match path.iter().rposition(|&b| b == b'/') {
+        Some(at) => text_of(&path[..at + 1])?,
+        None => ".",
+    };
     stored(File::open(&rt, folder)?, true)
 }
 
@@ -256,16 +217,8 @@ fn put_answer(rt: HostRuntime, r: State, changed: bool) -> io::Result<()> {
 // What failed, and why.
 pub(crate) fn put_fault(rt: HostRuntime, fault: Fault) -> io::Result<()> {
     match fault {
-        Fault::Reading(errno) => put_failure(
-            rt,
-            b"IN can't be read",
-            io::Error::from_raw_os_error(errno),
-        ),
-        Fault::Writing(errno) => put_failure(
-            rt,
-            b"OUT can't be written",
-            io::Error::from_raw_os_error(errno),
-        ),
+        Fault::Reading(e) => put_failure(rt, b"IN can't be read", e),
+        Fault::Writing(e) => put_failure(rt, b"OUT can't be written", e),
     }
 }
 

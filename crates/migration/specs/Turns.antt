@@ -12,8 +12,8 @@ is_nothing (Some f) = false
 -- A read failed.
 abbrev pub is_reading : Option Fault → Bool
 is_reading None = false
-is_reading (Some (Reading errno)) = true
-is_reading (Some (Writing errno)) = false
+is_reading (Some (Reading e)) = true
+is_reading (Some (Writing e)) = false
 
 -- What can have stopped a run when a block with this answer was to be written: after a refusal nothing is written, so nothing; else no read.
 abbrev pub WritingOnly : Result (Unit {0}) Refusal → Option Fault → Type 0

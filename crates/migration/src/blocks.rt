@@ -24,12 +24,11 @@ const BUFFER_BYTES: usize = 262144;
 
 pub(crate) type Buffer = [u8; BUFFER_BYTES];
 
-// What stopped a run before its end: a read or a write, with the system's number, 0 where it gave none. A State is copied, which the library's
-// error can't be.
-#[derive(Clone, Copy, Debug, PartialEq, Eq)]
+// What stopped a run before its end: a read or a write, with the error.
+#[derive(Clone, Copy, Debug)]
 pub enum Fault {
-    Reading(i32),
-    Writing(i32),
+    Reading(io::Error),
+    Writing(io::Error),
 }
 
 // Where a run stands; `sample` is the one that was refused, if one was, and `turns` how many blocks may still be read, 0 once the input has ended.
@@ -137,7 +136,7 @@ fn step<R: Read, W: Write>(
     match read_block(input, block_bytes(from, to), src) {
         Ok(got) => move_on(&src[..got.bytes], got.full, output, from, to, dst, r),
         Err(e) => State {
-            fault: Some(Fault::Reading(number_of(e))),
+            fault: Some(Fault::Reading(e)),
             turns: 0,
             ..r
         },
@@ -202,11 +201,6 @@ fn output_bytes(from: Kind, to: Kind, bytes: usize) -> usize
     samples * bytes_of(to)
 }
 
-// The system's number of an error, 0 where it gave none.
-pub(crate) fn number_of(e: io::Error) -> i32 {
-    e.raw_os_error().unwrap_or(0)
-}
-
 // Writes what a block came to; after a refusal nothing more is written.
 fn write_block<W: Write>(
     output: &mut W,
@@ -226,7 +220,7 @@ fn write_block<W: Write>(
             let n = output_bytes(from, to, bytes);
             match output.write_all(&dst[..n]) {
                 Ok(()) => None,
-                Err(e) => Some(Fault::Writing(number_of(e))),
+                Err(e) => Some(Fault::Writing(e)),
             }
         }
         Err(_) => None,

@@ -6,7 +6,7 @@ ghost use Rattle.migration.specs.Inner.{Looked};
 ghost use Rattle.migration.specs.Sizes.{block_bytes};
 ghost use Rattle.migration.specs.Runs.{Looks};
 
-use crate::blocks::{Buffer, Fault, block_bytes, large_buffer, number_of, turns_left};
+use crate::blocks::{Buffer, Fault, block_bytes, large_buffer, turns_left};
 use crate::watches::{Watch, begun, tell};
 use input::read_block;
 use look::{Seen, look_block};
@@ -88,7 +88,7 @@ fn look_on<R: Read>(input: &mut R, from: Kind, to: Kind, src: &mut Buffer, r: Lo
     match read_block(input, block_bytes(from, from), src) {
         Ok(got) => look_at(&src[..got.bytes], got.full, from, to, r),
         Err(e) => Look {
-            fault: Some(Fault::Reading(number_of(e))),
+            fault: Some(Fault::Reading(e)),
             turns: 0,
             ..r
         },

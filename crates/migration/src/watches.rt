@@ -10,7 +10,7 @@ pub struct Watch {
     pub second: Option<u64>,
 }
 
-// None of a clock that can't be read: then no line is told.
+// None of a clock that can't be read.
 fn second_now(rt: &impl Clock) -> Option<u64> {
     let time = rt.since_1970().ok()?;
     Some(time.as_secs())

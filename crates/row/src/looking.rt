@@ -12,7 +12,7 @@ pub trait Test {
         ensures { result ≡ test x };
 }
 
-// Whether a sample passes. Every sample is looked at, so that of whole numbers the loop is compiled to vector code.
+// Whether a sample passes. Every one is looked at: `any`, which stops at the first, isn't compiled to vector code.
 fn has<T: Test>(part: &[T::Sample]) -> bool
     ensures { result ≡ list_any T.test part.now }
 {

@@ -34,9 +34,9 @@ impl Conversion for F32ToU16 {
     fn number(x: f32) -> u8 {
         let bits = value::bits_f32(x, 0);
         let abs = float::abs(bits);
-        if 0x7f80_0000 < abs {
+        if float::is_nan(bits) {
             1
-        } else if abs == 0x7f80_0000 {
+        } else if float::is_infinite(bits) {
             2
         } else if bits == 0x8000_0000 {
             13

@@ -1,4 +1,4 @@
-// The samples in bytes, and the conversion of one as the two things that are asked of each. RULES.md: Migration, Exact conversion.
+// The samples in bytes, and whether the conversion of one is refused, and with which number. RULES.md: Migration, Exact conversion.
 ghost use Rattle.std.specs.Prelude.{◌≡◌};
 ghost use Rattle.sample.specs.Samples.{count_of, sample_at};
 ghost use Rattle.sample.specs.Refusals.{bits_to, is_refused, refusal_number};
@@ -35,7 +35,7 @@ pub fn is_refused(v: Value, to: Kind) -> bool
     convert(v, to).is_err()
 }
 
-// The number of the refusal. A public call keeps its type, so 0 stands for none.
+// The number of the refusal; 0 for none, as the definition `refusal_number` has it.
 #[tactic(auto, using(crate::proofs::Refusals::sample_given, crate::proofs::Refusals::sample_refused))]
 pub fn number_of(v: Value, to: Kind) -> u8
     ensures { result ≡ refusal_number (bits_to to v) }

@@ -14,8 +14,8 @@ use std::io::{Error, Write};
 fn main(rt: HostRuntime) {
     let mut input = rt.stdin();
     let r = run(&mut input);
-    if let Some(errno) = r.fault {
-        put_cause(rt, "standard input", Error::from_raw_os_error(errno));
+    if let Some(e) = r.fault {
+        put_cause(rt, "standard input", e);
         put(rt, b"error=standard input can't be read\n");
         return;
     }

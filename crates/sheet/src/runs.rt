@@ -4,6 +4,7 @@ ghost use Rattle.sheet.specs.Runs.{buffer_bytes, block_bytes, turns_left, TellsB
 ghost use Rattle.sheet.specs.Inner.{Stepped};
 
 use input::read_block;
+use std::io;
 use std::io::Read;
 use strip::{MOST, Sheet, tally_block};
 
@@ -11,12 +12,12 @@ const BUFFER_BYTES: usize = 131072;
 
 type Buffer = [u8; BUFFER_BYTES];
 
-// Where a run stands; `fault` is the system's number of a read that failed, 0 where it gave none, and `turns` how many blocks may still be read, 0
-// once the input has ended. The number stands for the error, which can't be copied.
+// Where a run stands; `fault` is the error of a read that failed, and `turns` how many blocks may still be read, 0
+// once the input has ended.
 #[derive(Clone, Copy)]
 pub(crate) struct Telling {
     pub sheet: Sheet,
-    pub fault: Option<i32>,
+    pub fault: Option<io::Error>,
     pub turns: u64,
 }
 
@@ -85,7 +86,7 @@ fn step<R: Read>(input: &mut R, src: &mut Buffer, r: Telling) -> Telling
         Ok(got) => tell(&src[..got.bytes], got.full, r),
         Err(e) => Telling {
             sheet: before,
-            fault: Some(e.raw_os_error().unwrap_or(0)),
+            fault: Some(e),
             turns: 0,
         },
     }

@@ -1,5 +1,5 @@
-// A block of each of two masters, compared behind what was seen before them. Plain loops over the samples, which are compiled to vector code: how
-// many places differ; only where some do, the largest distance; and the first place only where none was found before.
+// A block of each of two masters, compared behind what was seen before them: how many places differ, and only where some do, the largest distance;
+// both are compiled to vector code. The first place is looked for only where none was found before.
 ghost use Rattle.std.specs.Prelude.{◌≡◌, ◌+◌, ◌<◌, ◌≤◌, max, IfSome, length, sum_by, fold, position, option_map};
 ghost use Rattle.std.specs.Int.{from_bool};
 ghost use Rattle.std.specs.List.{zip};

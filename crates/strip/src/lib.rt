@@ -13,7 +13,7 @@ pub use tallies::tally_block;
 pub const MOST: u64 = 4294967295;
 
 // What was told of samples: how many there were, how many of each class, the lowest and the highest that aren't NaN, and the bytes left over
-// behind them; before the first, none and None.
+// behind them; before the first, 0 and None.
 #[derive(Clone, Copy, Default)]
 pub struct Sheet {
     pub samples: u64,
@@ -28,7 +28,7 @@ pub struct Sheet {
 }
 
 // What was seen of two masters: how many samples each has, how many of the places that both have differ, the first of these, and the largest
-// distance in total order; before the first block, none and None.
+// distance in total order; before the first block, 0 and None.
 #[derive(Clone, Copy)]
 pub struct Difference {
     pub left: u64,

@@ -1,5 +1,5 @@
 // The small words of case lines: digits and the numbers that they spell, words and lists of words, and the names of the kinds.
-// Every call is total: what is no such digit, number or name has an answer of its own.
+// Every call is total: what is no such digit, number or name is answered None.
 #![tactic(auto)]
 
 mod digits;

@@ -60,11 +60,6 @@ only_nan nan h = refl
 only_nan (inf s) h = absurd (true≢false (sym h))
 only_nan (fin s m e) h = absurd (true≢false (sym h))
 
-zero_over_zero : (f : Format) → div f (of_bits f 0) (of_bits f 0) ≡ nan
-unfolding div of_bits of_fields odd
-zero_over_zero binary32 = refl
-zero_over_zero binary64 = refl
-
 -- the language's own NaN
 quiet_nan : (f : Format) → of_bits f (inf_in (own_of f) + 2 ^ (fraction_of (own_of f) - 1)) ≡ nan
 unfolding of_bits of_fields odd
@@ -87,11 +82,7 @@ module _ (f : Format) (b : ℕ) (small : b < 2 * top f) where
   pub from_bits : false ≡ nan_in (own_of f) b → T (not (nan_bits f b))
   from_bits h = subst (λ (t : Bool). T (not t)) (sym (nan_bits_is f b)) (pattern_number h)
 
-  -- zero over zero is the NaN
-  pub made_nan : true ≡ nan_in (own_of f) b → div f (of_bits f 0) (of_bits f 0) ≡ of_bits f b
-  made_nan h = zero_over_zero f ∙ sym (only_nan (of_bits f b) (nan_test ∙ sym h))
-
-  -- and so is the language's own
+  -- the NaN of the language is the NaN of every such pattern
   pub quiet_made : true ≡ nan_in (own_of f) b → of_bits f (inf_in (own_of f) + 2 ^ (fraction_of (own_of f) - 1)) ≡ of_bits f b
   quiet_made h = quiet_nan f ∙ sym (only_nan (of_bits f b) (nan_test ∙ sym h))
 

@@ -10,7 +10,7 @@ use std::fmt;
 use text::digits_of;
 use value::{Kind, Refusal, Value, bits_of, value_of};
 
-// The most samples that a line may have, and the length of each row. Of f32 a line has room for fewer.
+// The most samples that a line may have, and the length of each row of samples. Of f32 a line has room for fewer.
 const MOST_SAMPLES: usize = 8192;
 
 // The bits that a destination holds before a conversion; a sample has as many of them as its kind.
