@@ -3,4 +3,4 @@
 
 mod reads;
 
-pub use reads::{Block, fill, read_block};
+pub use reads::{Block, Failed, fill, read_block};

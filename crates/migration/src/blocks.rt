@@ -135,8 +135,8 @@ fn step<R: Read, W: Write>(
 {
     match read_block(input, block_bytes(from, to), src) {
         Ok(got) => move_on(&src[..got.bytes], got.full, output, from, to, dst, r),
-        Err(e) => State {
-            fault: Some(Fault::Reading(e)),
+        Err(f) => State {
+            fault: Some(Fault::Reading(f.error)),
             turns: 0,
             ..r
         },

@@ -87,8 +87,8 @@ fn look_on<R: Read>(input: &mut R, from: Kind, to: Kind, src: &mut Buffer, r: Lo
 {
     match read_block(input, block_bytes(from, from), src) {
         Ok(got) => look_at(&src[..got.bytes], got.full, from, to, r),
-        Err(e) => Look {
-            fault: Some(Fault::Reading(e)),
+        Err(f) => Look {
+            fault: Some(Fault::Reading(f.error)),
             turns: 0,
             ..r
         },

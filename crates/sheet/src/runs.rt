@@ -84,9 +84,9 @@ fn step<R: Read>(input: &mut R, src: &mut Buffer, r: Telling) -> Telling
     let before = r.sheet;
     match read_block(input, block_bytes(before.samples), src) {
         Ok(got) => tell(&src[..got.bytes], got.full, r),
-        Err(e) => Telling {
+        Err(f) => Telling {
             sheet: before,
-            fault: Some(e),
+            fault: Some(f.error),
             turns: 0,
         },
     }
