@@ -12,7 +12,7 @@ ghost use Rattle.migration.specs.Turns.{is_nothing, turns_left, WritingOnly};
 
 use crate::watches::{Watch, begun, tell};
 use block::{Progress, ROW_PLACES, convert_block};
-use input::read_block;
+use input::{Block, read_block};
 use sample::sample_at;
 use std::io;
 use std::io::{Read, Seek, Write};
@@ -134,7 +134,7 @@ fn step<R: Read, W: Write>(
     ensures step { Stepped from to r src.new dst.old dst.new result }
 {
     match read_block(input, block_bytes(from, to), src) {
-        Ok(got) => move_on(&src[..got.bytes], got.full, output, from, to, dst, r),
+        Ok(got) => move_on(got, output, from, to, src, dst, r),
         Err(f) => State {
             fault: Some(Fault::Reading(f.error)),
             turns: 0,
@@ -143,30 +143,31 @@ fn step<R: Read, W: Write>(
     }
 }
 
-// What was read, and no more, is the next block.
+// What was read, and no more, is the next block. It is cut out here, where the contract says which bytes it is; that of `step` doesn't.
 fn move_on<W: Write>(
-    block: &[u8],
-    full: bool,
+    got: Block,
     output: &mut W,
     from: Kind,
     to: Kind,
+    src: &[u8],
     dst: &mut [u8],
     r: State,
 ) -> State
     requires some { 0 < r.turns }
-    requires read { length block.now ≤ block_bytes from to }
-    requires full { full ≡ eqb (length block.now) (block_bytes from to) }
+    requires read { (got.bytes ≤ length src.now) × (got.bytes ≤ block_bytes from to) }
+    requires full { got.full ≡ eqb got.bytes (block_bytes from to) }
     requires room { length dst.old ≡ buffer_bytes }
     ensures fewer { result.turns < r.turns }
-    ensures step { MovedOn from to r block.now dst.old dst.new result }
+    ensures step { MovedOn from to r (take got.bytes src.now) dst.old dst.new result }
 {
+    let block = &src[..got.bytes];
     let progress = convert_block(r.progress, from, to, block, dst);
     let fault = write_block(output, progress, from, to, dst, block.len());
     State {
         progress,
         sample: sample_after(r, from, block, progress),
         fault,
-        turns: turns_left(r.turns, full, fault),
+        turns: turns_left(r.turns, got.full, fault),
     }
 }
 

@@ -8,7 +8,7 @@ ghost use Rattle.migration.specs.Runs.{Looks};
 
 use crate::blocks::{Buffer, Fault, block_bytes, large_buffer, turns_left};
 use crate::watches::{Watch, begun, tell};
-use input::read_block;
+use input::{Block, read_block};
 use look::{Seen, look_block};
 use std::io::{Read, Seek};
 use std::rt::Clock;
@@ -86,7 +86,7 @@ fn look_on<R: Read>(input: &mut R, from: Kind, to: Kind, src: &mut Buffer, r: Lo
     ensures step { Looked from to r src.new result }
 {
     match read_block(input, block_bytes(from, from), src) {
-        Ok(got) => look_at(&src[..got.bytes], got.full, from, to, r),
+        Ok(got) => look_at(got, from, to, src, r),
         Err(f) => Look {
             fault: Some(Fault::Reading(f.error)),
             turns: 0,
@@ -95,16 +95,18 @@ fn look_on<R: Read>(input: &mut R, from: Kind, to: Kind, src: &mut Buffer, r: Lo
     }
 }
 
-// What was read, and no more, is the next block.
-fn look_at(block: &[u8], full: bool, from: Kind, to: Kind, r: Look) -> Look
+// What was read, and no more, is the next block. It is cut out here, where the contract says which bytes it is; that of `look_on` doesn't.
+fn look_at(got: Block, from: Kind, to: Kind, src: &[u8], r: Look) -> Look
     requires some { 0 < r.turns }
-    requires full { full ≡ eqb (length block.now) (block_bytes from from) }
+    requires read { got.bytes ≤ length src.now }
+    requires full { got.full ≡ eqb got.bytes (block_bytes from from) }
     ensures fewer { result.turns < r.turns }
-    ensures step { LookedOn from to r block.now result }
+    ensures step { LookedOn from to r (take got.bytes src.now) result }
 {
+    let block = &src[..got.bytes];
     Look {
         seen: look_block(r.seen, from, to, block),
         fault: None,
-        turns: turns_left(r.turns, full, None),
+        turns: turns_left(r.turns, got.full, None),
     }
 }

@@ -3,7 +3,7 @@ ghost use Rattle.std.specs.Prelude.{◌≤◌, ◌<◌, ◌≡◌, eqb, length, 
 ghost use Rattle.sheet.specs.Runs.{buffer_bytes, block_bytes, turns_left, TellsBlock, Runs};
 ghost use Rattle.sheet.specs.Inner.{Stepped};
 
-use input::read_block;
+use input::{Block, read_block};
 use std::io;
 use std::io::Read;
 use strip::{MOST, Sheet, tally_block};
@@ -83,7 +83,7 @@ fn step<R: Read>(input: &mut R, src: &mut Buffer, r: Telling) -> Telling
 {
     let before = r.sheet;
     match read_block(input, block_bytes(before.samples), src) {
-        Ok(got) => tell(&src[..got.bytes], got.full, r),
+        Ok(got) => tell(got, src, r),
         Err(f) => Telling {
             sheet: before,
             fault: Some(f.error),
@@ -92,16 +92,17 @@ fn step<R: Read>(input: &mut R, src: &mut Buffer, r: Telling) -> Telling
     }
 }
 
-// What was read, and no more, is the next block.
-fn tell(block: &[u8], full: bool, r: Telling) -> Telling
+// What was read, and no more, is the next block. It is cut out here, where the contract says which bytes it is; that of `step` doesn't.
+fn tell(got: Block, src: &[u8], r: Telling) -> Telling
     requires some { 0 < r.turns }
-    requires read { length block.now ≤ block_bytes r.sheet.samples }
-    requires full { full ≡ eqb (length block.now) (block_bytes r.sheet.samples) }
+    requires read { (got.bytes ≤ length src.now) × (got.bytes ≤ block_bytes r.sheet.samples) }
+    requires full { got.full ≡ eqb got.bytes (block_bytes r.sheet.samples) }
     ensures fewer { result.turns < r.turns }
-    ensures step { TellsBlock r block.now result }
+    ensures step { TellsBlock r (take got.bytes src.now) result }
 {
+    let block = &src[..got.bytes];
     let sheet = tally_block(r.sheet, block);
-    let turns = turns_left(r.turns, full, sheet.samples);
+    let turns = turns_left(r.turns, got.full, sheet.samples);
     Telling {
         sheet,
         fault: None,
