@@ -17,7 +17,9 @@ pub(crate) const ENAMETOOLONG: i32 = 36;
 const EILSEQ: i32 = 84;
 
 // An argument, put at the front of a buffer; no bytes where there is none. Of one that is longer, its front fills the buffer.
-pub(crate) fn argument(rt: HostRuntime, i: usize, buf: &mut [u8]) -> &[u8] {
+pub(crate) fn argument(rt: HostRuntime, i: usize, buf: &mut [u8]) -> &[u8]
+    ensures { length result.now ≤ length buf.old }
+{
     let n = match rt.arg(i, buf) {
         Ok(n) => n,
         Err(FillError::TooLong) => buf.len(),
