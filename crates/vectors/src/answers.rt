@@ -1,10 +1,11 @@
 // What a line is answered with, and its text.
 use crate::bytes::write_bytes;
+use crate::letters::Letters;
 use crate::rows::{Part, Rows};
 use float::{Class, Order};
 use record::Record;
 use std::fmt;
-use text::{KIND_NAMES, digits_of, nth_word};
+use text::{KIND_NAMES, nth_word};
 use value::{Refusal, Value, bits_of, kind_number, kind_of};
 
 #[derive(Drop)]
@@ -13,7 +14,7 @@ pub(crate) enum Answer<'a> {
     Order(Order),
     Test(bool),
     Value(Value),
-    Record(Record),
+    Record(&'a Record),
     Row(&'a Rows, Part),
     Bytes(&'a [u8]),
     // The length of a key, and all bytes that were lent for it.
@@ -41,7 +42,11 @@ impl fmt::Display for Answer<'_> {
             Answer::Class(c) => f.write_str(class_word(*c)),
             Answer::Order(o) => f.write_str(order_word(*o)),
             Answer::Test(yes) => f.write_str(if *yes { "yes" } else { "no" }),
-            Answer::Value(v) => write_value(f, *v),
+            Answer::Value(v) => {
+                let mut letters = Letters::new(f);
+                write_value(&mut letters, *v)?;
+                letters.hand_on()
+            }
             Answer::Record(r) => write_record(f, r),
             Answer::Row(rows, part) => rows.write(f, *part),
             Answer::Bytes(bytes) => write_bytes(f, bytes),
@@ -82,26 +87,23 @@ fn order_word(o: Order) -> &'static str {
     }
 }
 
-// KIND:HEX, with all digits of the kind. The names of kinds are bytes (text::KIND_NAMES), and written letter by letter.
-fn write_value<W: fmt::Write>(f: &mut fmt::Formatter<W>, v: Value) -> fmt::Result {
+// KIND:HEX, with all digits of the kind.
+fn write_value<W: fmt::Write>(letters: &mut Letters<'_, W>, v: Value) -> fmt::Result {
     let kind = kind_of(v);
-    let name = nth_word(&KIND_NAMES, kind_number(kind) as usize);
-    for letter in name {
-        f.write_char(char::from(*letter))?;
-    }
-    let bits = bits_of(v);
-    let digits = digits_of(kind);
-    write!(f, ":{bits:0digits$x}")
+    letters.put_all(nth_word(&KIND_NAMES, kind_number(kind) as usize))?;
+    letters.put(b':')?;
+    letters.put_bits(kind, bits_of(v))
 }
 
 // The fields that count, joined by commas.
 fn write_record<W: fmt::Write>(f: &mut fmt::Formatter<W>, r: &Record) -> fmt::Result {
     let count = r.count;
+    let mut letters = Letters::new(f);
     for (at, field) in r.fields.iter().take(count).enumerate() {
         if at > 0 {
-            f.write_char(',')?;
+            letters.put(b',')?;
         }
-        write_value(f, field.value)?;
+        write_value(&mut letters, field.value)?;
     }
-    Ok(())
+    letters.hand_on()
 }

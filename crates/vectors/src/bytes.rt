@@ -1,9 +1,14 @@
 // Strings of bytes as text: two digits a byte, and `-` where there are none.
+ghost use Rattle.std.specs.Prelude.{◌≤◌, length, IfSome};
+
+use crate::letters::Letters;
 use std::fmt;
 use text::hex_number;
 
 // Puts the bytes of a text at the front of a row: these bytes. No string of a line is longer than the row.
-pub(crate) fn bytes_in<'a>(s: &[u8], row: &'a mut [u8; 512]) -> Option<&'a [u8]> {
+pub(crate) fn bytes_in<'a>(s: &[u8], row: &'a mut [u8; 512]) -> Option<&'a [u8]>
+    ensures { IfSome result (λ bytes. length bytes.now ≤ 512) }
+{
     if matches!(s, b"-") {
         return Some(&row[..0]);
     }
@@ -21,8 +26,7 @@ pub(crate) fn write_bytes<W: fmt::Write>(f: &mut fmt::Formatter<W>, bytes: &[u8]
     if bytes.is_empty() {
         return f.write_char('-');
     }
-    for b in bytes {
-        write!(f, "{b:02x}")?;
-    }
-    Ok(())
+    let mut letters = Letters::new(f);
+    letters.put_hex(bytes)?;
+    letters.hand_on()
 }

@@ -21,12 +21,13 @@ pub(crate) fn write_line<'a>(rest: &[u8], rows: &'a mut Rows) -> Result<Answer<'
 }
 
 // A shape and a key.
-pub(crate) fn read_line(rest: &[u8], rows: &mut Rows) -> Result<Answer<'static>, Fault> {
+pub(crate) fn read_line<'a>(rest: &[u8], rows: &'a mut Rows) -> Result<Answer<'a>, Fault> {
     let shape = shape_in(before(b' ', rest)).ok_or(Fault::Malformed)?;
     let key = bytes_in(after(b' ', rest), &mut rows.one).ok_or(Fault::Malformed)?;
     let read = key::read(shape, key);
     read.outcome?;
-    Ok(Answer::Record(read.record))
+    rows.record = read.record;
+    Ok(Answer::Record(&rows.record))
 }
 
 // The length of a prefix and two rows of bytes, of which one is chosen by their prefixes.

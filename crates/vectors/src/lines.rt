@@ -21,8 +21,8 @@ pub(crate) fn answer_to<'a>(line: &[u8], rows: &'a mut Rows) -> Result<Answer<'a
         b"convert" => convert_line(rest),
         b"row" => row_line(rest, rows),
         b"rcompare" => record_compare_line(rest),
-        b"rmin" => record_choice_line(rest, |one, other| lexical::min(one, other)),
-        b"rmax" => record_choice_line(rest, |one, other| lexical::max(one, other)),
+        b"rmin" => record_choice_line(rest, rows, |one, other| lexical::min(one, other)),
+        b"rmax" => record_choice_line(rest, rows, |one, other| lexical::max(one, other)),
         b"write" => write_line(rest, rows),
         b"read" => read_line(rest, rows),
         b"prefixmin" => prefix_line(

@@ -7,6 +7,7 @@ mod answers;
 mod bytes;
 mod input;
 mod key_lines;
+mod letters;
 mod lines;
 mod lists;
 mod operands;

@@ -1,6 +1,7 @@
 // The lines that take two records.
 use crate::answers::{Answer, Fault};
 use crate::records::records_in;
+use crate::rows::Rows;
 use record::{Record, Recorded};
 
 pub(crate) fn record_compare_line(rest: &[u8]) -> Result<Answer<'static>, Fault> {
@@ -9,7 +10,11 @@ pub(crate) fn record_compare_line(rest: &[u8]) -> Result<Answer<'static>, Fault>
 }
 
 // One of two records.
-pub(crate) fn record_choice_line<F>(rest: &[u8], choose: F) -> Result<Answer<'static>, Fault>
+pub(crate) fn record_choice_line<'a, F>(
+    rest: &[u8],
+    rows: &'a mut Rows,
+    choose: F,
+) -> Result<Answer<'a>, Fault>
 where
     F: FnOnce(Record, Record) -> Recorded,
     requires { F.IsAlwaysCallable choose }
@@ -17,5 +22,6 @@ where
     let (one, other) = records_in(rest).ok_or(Fault::Malformed)?;
     let chosen = choose(one, other);
     chosen.outcome?;
-    Ok(Answer::Record(chosen.record))
+    rows.record = chosen.record;
+    Ok(Answer::Record(&rows.record))
 }

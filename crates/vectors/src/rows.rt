@@ -1,13 +1,14 @@
-// The rows that are lent: one of samples for each kind that a row has, so that a conversion has its source in one and its destination in
-// another, and two of bytes. A sample goes in and comes out as a value.
+// What is lent to a line: a row of samples for each kind that a row has, so that a conversion has its source in one and its destination in
+// another, two rows of bytes, and a record. A sample goes in and comes out as a value.
 ghost use Rattle.std.specs.Prelude.{◌≤◌, ◌<◌};
 ghost use Rattle.vectors.specs.declared.rows.TheConstants.{MOST_SAMPLES};
 
 use crate::answers::Fault;
+use crate::letters::Letters;
 use crate::lists::{count_in, items_in};
 use crate::operands::with_digits;
+use record::Record;
 use std::fmt;
-use text::digits_of;
 use value::{Kind, Refusal, Value, bits_of, value_of};
 
 // The most samples that a line may have, and the length of each row of samples. Of f32 a line has room for fewer.
@@ -23,6 +24,8 @@ pub(crate) struct Rows {
     pub f32s: [f32; MOST_SAMPLES],
     pub one: [u8; 512],
     pub other: [u8; 512],
+    // The record of an answer. An answer is copied for every line, and one that held its record would be large.
+    pub record: Record,
 }
 
 // The first `count` samples of the row of a kind.
@@ -47,6 +50,7 @@ impl Rows {
             f32s: [0.0; MOST_SAMPLES],
             one: [0; 512],
             other: [0; 512],
+            record: record::blank(),
         }
     }
 
@@ -97,10 +101,15 @@ impl Rows {
         }
     }
 
-    // Whether the filling is still there.
+    // Whether the filling is still there. As an f32 it is neither NaN nor zero, so that only its own bits equal it.
     fn is_filled(&self, part: Part) -> bool {
-        let filling = bits_of(value_of(part.kind, FILLING));
-        (0..part.count).all(|at| bits_of(self.sample_at(part.kind, at)) == filling)
+        let count = part.count;
+        match value_of(part.kind, FILLING) {
+            Value::U8(n) => all_are(&self.u8s[..count], n),
+            Value::U16(n) => all_are(&self.u16s[..count], n),
+            Value::F32(x, _) => all_are(&self.f32s[..count], x),
+            _ => true,
+        }
     }
 
     // What the refusal of a call comes to, to which a part was lent that was filled before.
@@ -121,14 +130,20 @@ impl Rows {
         if part.count == 0 {
             return f.write_char('-');
         }
-        let digits = digits_of(part.kind);
+        let mut letters = Letters::new(f);
         for at in 0..part.count {
             if at > 0 {
-                f.write_char(',')?;
+                letters.put(b',')?;
             }
-            let bits = bits_of(self.sample_at(part.kind, at));
-            write!(f, "{bits:0digits$x}")?;
+            letters.put_bits(part.kind, bits_of(self.sample_at(part.kind, at)))?;
         }
-        Ok(())
+        letters.hand_on()
     }
+}
+
+// Whether every sample is x. It doesn't end at one that differs, so that the compiled loop compares many at once.
+fn all_are<T: PartialEq + Copy>(samples: &[T], x: T) -> bool {
+    samples
+        .iter()
+        .fold(true, |same, sample| same & (*sample == x))
 }
