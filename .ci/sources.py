@@ -7,10 +7,11 @@ from pathlib import Path
 ROOT = Path(__file__).resolve().parent.parent
 HEAD = re.compile(r'^ *(?P<public>pub(?P<within>\(crate\))? )?(?:extern "C" )?fn (?P<name>\w+)')
 BREAK = re.compile(r"//[^\n]*|\b(?P<word>requires|ensures)\b(?P<name>[^{]*)\{|\{")
+FROM_GIVES = re.compile(r" *ghost from_gives = \{")
 
 
 class Clause:
-    """`requires` or `ensures`: its name, and what it says; the answer is its `result`."""
+    """`requires` or `ensures`: its name, and what it says; the answer is its `result`. That of a `from` says it as λ argument answer."""
 
     def __init__(self, word, name, text):
         self.word, self.name, self.text = word, name.strip(), " ".join(text.split())
@@ -19,10 +20,10 @@ class Clause:
 class Function:
     """Where it stands, its signature on one line, and its clauses."""
 
-    def __init__(self, source, line, owner, head, text):
+    def __init__(self, source, line, owner, of_trait, head, text):
         self.crate, self.source, self.line = crate_of(source), source, line
         self.name = f"{self.crate}::{owner}{head['name']}"
-        self.is_public = bool(head["public"]) and not head["within"]
+        self.of_trait, self.is_public = of_trait, bool(head["public"]) and not head["within"]
         self.clauses, signature, at = [], "", 0
         while found := BREAK.search(text, at):
             signature += text[at:found.start()]
@@ -49,9 +50,9 @@ class Function:
 
 
 def imports(source):
-    """What a file calls what it takes by `ghost use`, and where that is."""
+    """What a file calls what it takes by `ghost use`, at its top or in an impl, and where that is."""
     taken = {}
-    for path, listed in re.findall(r"^ghost use ([^\s{;]+)\.\{([^}]*)\};", source.read_text(), re.M):
+    for path, listed in re.findall(r"^ *ghost use ([^\s{;]+)\.\{([^}]*)\};", source.read_text(), re.M):
         for name in listed.split(","):
             there, _, here = name.strip().partition(" as ")
             taken[here or there] = f"{path}.{there}"
@@ -86,17 +87,24 @@ def is_archive(source):
 
 
 def functions(source):
-    """Those of a file, in order; a method has its type before its name. One of a trait is public where it has a clause of its own."""
-    found, owner, of_trait = [], "", False
+    """Those of a file, in order; a method has its type before its name. One of a trait is public where it has a clause of its own, and
+    `from` always: its clause is the `from_gives` that its impl has above it."""
+    found, owner, of_trait, given = [], "", False, []
     lines = source.read_text().splitlines()
     for at, text in enumerate(lines):
+        rest = "\n".join(lines[at:])
         if made := re.match(r"impl(?:<[^>]*>)? (?:\w+(?:<.*>)? (for) )?(\w+)", text):
-            owner, of_trait = f"{made[2]}::", bool(made[1])
+            owner, of_trait, given = f"{made[2]}::", bool(made[1]), []
         elif text.startswith("}"):
-            owner = ""
+            owner, of_trait, given = "", False, []
+        elif said := FROM_GIVES.match(text):
+            given = [Clause("ensures", "", rest[said.end():closing(rest, said.end())])]
         elif head := HEAD.match(text):
-            found.append(Function(source, at + 1, owner, head, "\n".join(lines[at:])))
-            if owner and of_trait and found[-1].clauses:
+            found.append(Function(source, at + 1, owner, of_trait, head, rest))
+            is_from = of_trait and head["name"] == "from"
+            if is_from:
+                found[-1].clauses += given
+            if is_from or of_trait and found[-1].clauses:
                 found[-1].is_public = True
     return found
 
